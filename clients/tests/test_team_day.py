@@ -18,6 +18,7 @@ from bench61499.language.positions import edited
 from bench61499.lsp.choices import TAKE
 from bench61499.lsp.teamtalk import STARTED_AGAIN
 
+PATIENCE = 60.0
 CAN = {"workspace": {"applyEdit": True, "workspaceEdit": {"documentChanges": True}}}
 ALL = sorted(it.stem for it in CONVEYOR.glob("*.fb"))
 
@@ -60,9 +61,12 @@ class DayTest(InFolder):
         self.tap = self.enterContext(Tap(self.host.port))
         self.ann, self.ben = (Syncing(self.folder / name, self.tap.port) for name in ("ann", "ben"))
         self.saved: list[bytes] = []
+        self.replaced: set[bytes] = set()
 
     def save(self, who: Syncing, unit: str, text: str) -> None:
-        (who.folder / f"{unit}.fb").write_text(text)
+        file = who.folder / f"{unit}.fb"
+        self.replaced |= {file.read_bytes()} if file.exists() else set()
+        file.write_text(text)
         self.saved.append(text.encode())
 
     def text(self, who: Syncing, unit: str) -> str:
@@ -73,7 +77,7 @@ class DayTest(InFolder):
             return team_texts(session)
 
     def await_agreement(self, *people: Syncing) -> None:
-        until(lambda: all(it.units() == self.team() for it in people), 60)
+        until(lambda: all(it.units() == self.team() for it in people), PATIENCE)
 
     def check(self, folder: Path) -> CompletedProcess[str]:
         return run("check", folder, "--connect", f":{self.tap.port}")
@@ -83,14 +87,6 @@ class DayTest(InFolder):
         self.addCleanup(lambda: who.is_running() and who.end())
 
     def test_a_day(self) -> None:
-        try:
-            self.day()
-        except BaseException:
-            print("ANN", self.ann.said(), "BEN", self.ben.said(), "LOG", self.log_said.read_text(), "CID", self.cid.editor.messages, self.cid.editor.shown, self.cid.editor.asked, sep="\n")
-            for n in ("LIFTER", "STATION", "FEEDER", "PLANT"):
-                print("TEAM", n, self.team().get(n, "")[:200], self.team().get(n, "")[-200:])
-            raise
-    def day(self) -> None:
         self.join()
         self.edit_the_same_unit()
         self.edit_the_same_line()
@@ -128,9 +124,11 @@ class DayTest(InFolder):
         text = self.text(self.ann, "LIFTER")
         self.save(self.ann, "LIFTER", f"// Ann\n{text}")
         self.save(self.ben, "LIFTER", f"{text}// Ben\n")
-        until(lambda: self.team()["LIFTER"] == f"// Ann\n{text}// Ben\n")
+        until(lambda: self.team()["LIFTER"] == f"// Ann\n{text}// Ben\n", PATIENCE)
         self.await_agreement(self.ann, self.ben)
-        self.cid.editor.await_told("LIFTER.fb", (3, r"LIFTER was changed by session \d+ \(commit \d+\) \d+ s ago"))
+        with self.host.session() as session:
+            commit = session.text("LIFTER").revision
+        self.cid.editor.await_told("LIFTER.fb", (3, rf"LIFTER was changed by session \d+ \(commit {commit}\) \d+ s ago"))
         self.cid.do(TAKE)
         self.cid.editor.await_codes(LIFTER=[])
         self.assertEqual(self.cid.text, self.team()["LIFTER"])
@@ -144,13 +142,13 @@ class DayTest(InFolder):
         text = self.text(self.ann, "FEEDER")
         self.save(self.ann, "FEEDER", f"// one\n{text}")
         self.save(self.ben, "FEEDER", f"// other\n{text}")
-        until(lambda: self.ann.conflicts() or self.ben.conflicts())
+        until(lambda: self.ann.conflicts() or self.ben.conflicts(), PATIENCE)
         who = self.ann if self.ann.conflicts() else self.ben
         (beside,) = who.conflicts()
         self.assertIn("// o", self.text(who, "FEEDER"))
         self.save(who, "FEEDER", f"// one and other\n{text}")
         beside.unlink()
-        until(lambda: self.team()["FEEDER"] == f"// one and other\n{text}")
+        until(lambda: self.team()["FEEDER"] == f"// one and other\n{text}", PATIENCE)
         self.await_agreement(self.ann, self.ben)
         self.assertEqual([*self.ann.conflicts(), *self.ben.conflicts()], [])
 
@@ -164,19 +162,23 @@ class DayTest(InFolder):
         self.cid.editor.messages.clear()
         self.cid.type(f"// Cid, alone\n{self.cid.text}")
         self.cid.save()
-        until(lambda: all("trying again" in it.said() for it in (self.ann, self.ben)))
+        until(lambda: all("trying again" in it.said() for it in (self.ann, self.ben)), PATIENCE)
         self.assertIn("trying again", self.cid.editor.await_message())
         self.cid.editor.await_told("LIFTER.fb", (3, "not checked: .*; trying again"))
         ran = self.check(self.ben.folder)
         self.assertEqual((ran.returncode, ran.stdout), (2, ""))
+        self.assertIn("check: no workbench at", ran.stderr)
         self.viewer.until(lambda it: "trying again" in it.ended)
         self.tap.mend()
         self.assertIn("answers again", self.cid.editor.await_message())
         self.cid.editor.await_codes(LIFTER=[])
         self.viewer.until(lambda it: not it.ended)
-        until(lambda: self.team()["STATION"] == f"// Ann, alone\n{text}// Ben, alone\n" and self.team()["LIFTER"] == self.cid.text)
+        until(lambda: self.team()["STATION"] == f"// Ann, alone\n{text}// Ben, alone\n" and self.team()["LIFTER"] == self.cid.text, PATIENCE)
         self.await_agreement(self.ann, self.ben)
         self.viewer.until(lambda it: it.state("GAUGE") == "fine")
+        for it in (self.ann, self.ben):
+            before, again, _ = it.said().partition("the host answers again\n")
+            self.assertTrue(before.endswith("trying again\n") and again, it.said())
 
     def lose_the_host(self) -> None:
         """It is killed and started again, with nothing. The folders have all."""
@@ -185,12 +187,13 @@ class DayTest(InFolder):
         text = self.text(self.ann, "PLANT")
         self.save(self.ann, "PLANT", f"// Ann, without a host\n{text}")
         self.host.start()
-        until(lambda: self.team() == {**before, "PLANT": f"// Ann, without a host\n{text}"}, 60)
+        until(lambda: self.team() == {**before, "PLANT": f"// Ann, without a host\n{text}"}, PATIENCE)
         self.await_agreement(self.ann, self.ben)
         while not any(STARTED_AGAIN in it for it in self.cid.editor.messages):
             self.cid.editor.read()
         self.cid.editor.await_codes(LIFTER=[])
-        until(lambda: "was started again" in self.ann.said() and "was started again" in self.ben.said())
+        until(lambda: all("the host was started again" in it.said() for it in (self.ann, self.ben)), PATIENCE)
+        self.assertEqual([*self.ann.conflicts(), *self.ben.conflicts()], [])
         self.viewer.until(lambda it: it.state("PLANT") == "fine")
 
     def come_back(self) -> None:
@@ -205,22 +208,24 @@ class DayTest(InFolder):
         self.assertEqual(ran.returncode, 2)
         self.assertIn("STATION", ran.stderr)
         self.start(self.ben)
-        until(lambda: self.team()["STATION"] == f"// Ann, at work\n{text}// Ben, at home\n")
+        until(lambda: self.team()["STATION"] == f"// Ann, at work\n{text}// Ben, at home\n", PATIENCE)
         self.await_agreement(self.ann, self.ben)
         self.assertFalse((self.ben.folder / "GAUGE.fb").exists())
 
     def leave(self) -> None:
-        """All texts that anybody has saved are somewhere."""
+        """All texts that anybody has saved are somewhere, but for those that the same person put another text over."""
         team = self.team()
         self.cid.editor.close()
         for it in (self.ann, self.ben):
             self.assertEqual(it.end(signal.SIGINT), 130)
             self.assertEqual(it.units(), team)
-        until(lambda: {it.stem: it.read_text() for it in self.history.glob("*.fb")} == team)
-        there = self.ann.everything() | self.ben.everything()
+        until(lambda: {it.stem: it.read_text() for it in self.history.glob("*.fb")} == team, PATIENCE)
+        told = self.log_said.read_text()
+        self.assertEqual([told.count(words) for words in ("trying again", "the host answers again", "the host was started again")], [2, 2, 1])
+        there = self.ann.everything() | self.ben.everything() | self.replaced
         self.assertEqual([it.decode() for it in self.saved if it not in there], [])
         with self.host.session() as session:
-            until(lambda: not session.status().pending)
+            until(lambda: not session.status().pending, PATIENCE)
 
 
 if __name__ == "__main__":

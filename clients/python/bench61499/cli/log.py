@@ -84,9 +84,11 @@ class Log:
         except NoSuchKey:
             return  # It was removed since.
 
-    def follow(self, session: Session) -> None:
-        """Goes on as long as the connection lasts."""
+    def follow(self, session: Session, since: Since | None = None) -> None:
+        """Tells what has happened `since`, and goes on as long as the connection lasts."""
         try:
+            if since:
+                self._tell(session, since, is_new=False)
             while True:
                 self._tell(session, self._place.wait(session, WATCH), is_new=True)
         except WorkbenchError as error:
@@ -99,10 +101,10 @@ class Log:
             time.sleep(next(waits))
             try:
                 with open_once(options) as session:
-                    self.catch_up(session)
+                    since = self._place.catch_up(session)
                     say("the host answers again")
                     waits = pauses()
-                    self.follow(session)
+                    self.follow(session, since)
             except WorkbenchError:
                 continue
 

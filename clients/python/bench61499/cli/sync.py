@@ -118,11 +118,12 @@ def keep(keeper: Keeper, saved: Saved, store: Store, team: Team, report: Report,
             keeper.look()
             rest = REST * (time.thread_time() - begun) if saved.is_settled() else 0.0
             next_look = time.monotonic() + min(max(LOOK, rest), LONGEST_LOOK)
-        if keeper.step() and not is_begun:
-            is_begun = True
-            report.say(f"{saved.root} is kept the same as {address} from now on: {keeper.count():,} units")
+        team.take()
         if team.error:
             report.trouble(NAME, f"{team.error}; trying again")
         elif report.is_over(NAME):
             report.say("the host answers again")
+        if keeper.step() and not is_begun:
+            is_begun = True
+            report.say(f"{saved.root} is kept the same as {address} from now on: {keeper.count():,} units")
         team.wait(max(0.0, next_look - time.monotonic()))
