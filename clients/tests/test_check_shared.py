@@ -374,6 +374,7 @@ class EntranceTest(Shared):
     def test_a_secret(self):
         self.write("a.fb", GOOD)
         secret = self.write("secret", "open sesame\n")
+        secret.chmod(0o600)
         with hosting("--secret", str(secret)) as port:
             self.assertEqual(self.check(port, "--replace", "--secret", "secret").returncode, 0)
             self.assertEqual(self.check(port, BENCH61499_SECRET_FILE="secret").returncode, 0)

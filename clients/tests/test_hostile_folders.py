@@ -3,20 +3,24 @@ from __future__ import annotations
 
 import os
 import shutil
+import sqlite3
 import subprocess
 import unittest
 from collections.abc import Iterator
-from contextlib import contextmanager
+from contextlib import closing, contextmanager
 from unittest.mock import patch
 
 from exchanging import imported
-from support import CLIENTS, CONVEYOR, InFolder, locked, run, workbench
+from support import CLIENTS, CONVEYOR, InFolder, hosting, locked, run, workbench
 
+from bench61499.cli.comparing import last_common
 from bench61499.exchange import imports
 from bench61499.exchange.xmlfile import find_xml
 from bench61499.language.folder import Folder
+from bench61499.language.units import Misuse
 from bench61499.language.writing import create, write_over
 from bench61499.lsp.sources import Sources
+from bench61499.sync.store import Store
 
 LOOSE = "FUNCTION_BLOCK   {}\nEND_FUNCTION_BLOCK\n"
 """A unit that is not laid out."""
@@ -191,6 +195,39 @@ class NamesTest(HostileTest):
             lines = (ran.stdout + ran.stderr).splitlines()
             self.assertTrue([it for it in lines if "evil\ufffd[31m" in it], ran)
             self.assertFalse([it for it in lines if it.startswith(("7 units", "::error evil")) or "\033" in it], ran)
+
+
+class StateTest(HostileTest):
+    """A project that brings a state of `sync`, with views in the place of tables."""
+
+    def setUp(self) -> None:
+        super().setUp()
+        self.state = self.write("plant/.bench61499/state.sqlite", b"")
+
+    def make(self, words: str) -> None:
+        with closing(sqlite3.connect(self.state)) as tables:
+            tables.executescript(words)
+
+    def test_rows_without_end_are_not_read(self) -> None:
+        endless = "WITH RECURSIVE c(x) AS (SELECT 1 UNION ALL SELECT x + 1 FROM c) SELECT x FROM c"
+        self.make(f"CREATE VIEW workbench(identity) AS {endless}")
+        with hosting() as port:
+            self.assertEqual(last_common([self.plant], "x"), {})
+            ran = run("sync", "plant", "--connect", f":{port}", "--pull", folder=self.folder)
+            told = "sync: plant/.bench61499/state.sqlite: has other tables than those of sync, and may come from elsewhere; remove it\n"
+            self.assertEqual((ran.returncode, ran.stderr), (2, told))
+
+    def test_values_of_gigabytes_and_values_that_are_no_words(self) -> None:
+        (self.plant / ".bench61499").rename(self.folder / "away")
+        Store(self.plant).close()
+        self.state = self.plant / ".bench61499" / "state.sqlite"
+        self.make("INSERT INTO workbench VALUES ('x'); INSERT INTO common VALUES ('A', x'00', 1, x'01'), (x'02', 'b.fb', 1, 'B')")
+        opened = Store(self.plant)
+        self.assertEqual(opened.common, {})
+        opened.close()
+        self.make("INSERT INTO common VALUES ('C', 'c.fb', 1, zeroblob(2000000))")
+        self.assertEqual(last_common([self.plant], "x"), {})
+        self.assertRaises(Misuse, Store, self.plant)
 
 
 class WritingTest(InFolder):

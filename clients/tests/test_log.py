@@ -185,6 +185,24 @@ class GitTest(LogTest):
             self.refused(port, expected, "--git", self.history)
         self.assertEqual({it.name for it in self.history.iterdir()}, {"mine", ".git"})
 
+    def test_a_history_from_elsewhere_runs_no_command(self) -> None:
+        """The settings of a history may name commands, which git would run with the next commit."""
+        command = self.write("command", f"#!/bin/sh\ntouch {self.folder}/ran\ncat\n")
+        command.chmod(0o755)
+        with hosting() as port, Session.connect("127.0.0.1", port) as session:
+            session.commit([Put("A", 0, text("A"))])
+            self.printed(port, "--git", self.history)
+            for name, value in (("core.fsmonitor", command), ("filter.x.smudge", command), ("remote.o.uploadpack", command)):
+                (self.history / ".git" / "info" / "attributes").write_text("*.fb filter=x\n")
+                self.git("config", name, str(value))
+                session.commit([Put("A", session.revision("A"), text("A", name))])
+                told = f"{self.history}: its .git/config sets {name}, by which git may run a command; remove that, or name another folder"
+                self.refused(port, told, "--git", self.history)
+                self.git("config", "--unset", name)
+            self.git("remote", "add", "origin", "https://example.org/plant.git")
+            self.printed(port, "--git", self.history)
+        self.assertFalse((self.folder / "ran").exists())
+
     def test_without_git_it_says_so(self) -> None:
         with hosting() as port:
             (self.folder / "python3").symlink_to(shutil.which("python3") or "")

@@ -4,6 +4,7 @@ from __future__ import annotations
 import argparse
 import codecs
 import os
+import stat
 import sys
 import time
 from collections.abc import Callable, Iterator
@@ -23,6 +24,8 @@ SEAT_PATIENCE = 60.0
 """Seconds in which a program that runs once waits for a session that ends."""
 NOT_LET_IN = 2
 """Times that it tries again after it was not let in."""
+LONGEST_SECRET = 8_192
+"""Characters of a secret that are read, at most: a host reads no longer first line."""
 AGAIN = 3
 """Times that it connects again after a connection has ended."""
 Result = TypeVar("Result")
@@ -150,16 +153,19 @@ def persistently(options: argparse.Namespace, act: Callable[[], Result]) -> Resu
 
 
 def read_secret(file: str | None) -> str | None:
-    """The first line of a file. Raises `NoWorkbench` if it has none."""
+    """The first line of a file. Raises `NoWorkbench` if it has none, or if other users of the machine can read the file."""
     if not file:
         return None
     try:
         with open(file, encoding="utf-8", newline="") as lines:
-            secret = lines.readline().rstrip("\n")
+            mode = os.fstat(lines.fileno()).st_mode
+            secret = lines.readline(LONGEST_SECRET).rstrip("\n")
     except (OSError, UnicodeDecodeError) as error:
         raise NoWorkbench(f"the secret can't be read from {file}: {getattr(error, 'strerror', None) or 'it is not UTF-8'}") from error
     if not secret:
         raise NoWorkbench(f"the first line of {file} is empty, so it has no secret")
+    if stat.S_ISREG(mode) and mode & stat.S_IROTH:
+        raise NoWorkbench(f"other users of this machine can read the secret in {file}; chmod 600 keeps it from them")
     return secret
 
 

@@ -10,14 +10,16 @@ from itertools import groupby
 from operator import attrgetter
 from pathlib import Path
 
-from bench61499 import Change, NoSuchUnit, Put, Remove, Session, StaleBase, batches
+from bench61499 import UNITS_LIMIT, Change, NoSuchUnit, Put, Remove, Session, StaleBase, batches
 from bench61499.language.units import Misuse, Unit
 from bench61499.snapshot import Snapshot
+from bench61499.sync import store
+from bench61499.sync.store import is_of_sync
 
 AGAIN = "{} was changed by somebody else while it was checked; check again"
 NAMED = 20
 """Units that one line names, at most."""
-STATE = Path(".bench61499", "state.sqlite")
+STATE = Path(store.NAME, store.STATE)
 """What `sync` keeps in a folder: the texts that the folder and the workbench last had in common."""
 
 
@@ -142,8 +144,8 @@ def _states_above(path: Path) -> Iterator[Path]:
 def _common_of(state: Path, workbench: str) -> list[tuple[str, str]]:
     try:
         with closing(sqlite3.connect(f"{state.as_uri()}?mode=ro", uri=True, timeout=0)) as tables:
-            if tables.execute("SELECT identity FROM workbench").fetchall() != [(workbench,)]:
+            if not is_of_sync(tables) or tables.execute("SELECT identity FROM workbench LIMIT 2").fetchall() != [(workbench,)]:
                 return []
-            return tables.execute("SELECT unit, text FROM common WHERE revision > 0").fetchall()
+            return tables.execute(f"SELECT unit, text FROM common WHERE revision > 0 LIMIT {UNITS_LIMIT}").fetchall()
     except sqlite3.Error:
         return []

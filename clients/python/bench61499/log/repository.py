@@ -17,6 +17,11 @@ from bench61499.log.lines import told_commit, told_missing
 BRANCH = "refs/heads/workbench"
 _MARK = "bench61499.log"
 _ALONE = {"GIT_CONFIG_NOSYSTEM": "1", "GIT_CONFIG_GLOBAL": os.devnull, "GIT_TERMINAL_PROMPT": "0"}
+_HARMLESS = re.compile(
+    r"core\.(repositoryformatversion|filemode|bare|logallrefupdates|ignorecase|symlinks|precomposeunicode)|bench61499\.log|user\.(name|email)"
+    r"|remote\..*\.(url|pushurl|fetch)|branch\..*\.(remote|merge)"
+)
+"""What the configuration of a history may set, which may come from elsewhere: by other settings git runs commands."""
 _PLACE = re.compile(r"^Workbench: (\w*)\nCommit: (\d+)\nCall: (\d+)$", re.MULTILINE)
 
 
@@ -38,6 +43,8 @@ class Repository:
             self._git("config", _MARK, "true")
         elif not (folder / ".git").is_dir() or self._git("config", "--local", "--default", "", "--get", _MARK).strip() != "true":
             raise Misuse(f"{folder}: is no history that `log --git` has begun; name a folder that is absent or empty")
+        elif other := next((it for it in self._git("config", "--local", "--name-only", "--list").splitlines() if not _HARMLESS.fullmatch(it)), None):
+            raise Misuse(f"{folder}: its .git/config sets {other}, by which git may run a command; remove that, or name another folder")
 
     def place(self) -> Place:
         """Where the history ends."""

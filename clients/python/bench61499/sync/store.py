@@ -5,7 +5,7 @@ import fcntl
 import os
 import sqlite3
 from collections.abc import Iterator, Mapping
-from contextlib import contextmanager
+from contextlib import closing, contextmanager
 from dataclasses import astuple, dataclass
 from datetime import UTC, datetime
 from hashlib import sha256
@@ -27,6 +27,9 @@ CREATE TABLE IF NOT EXISTS written (unit TEXT PRIMARY KEY, content TEXT NOT NULL
 CREATE TABLE IF NOT EXISTS conflict (unit TEXT PRIMARY KEY, file TEXT NOT NULL, revision INTEGER NOT NULL, text TEXT NOT NULL);
 CREATE TABLE IF NOT EXISTS former (unit TEXT, digest BLOB, PRIMARY KEY (unit, digest)) WITHOUT ROWID;
 """
+_SCHEMA = "SELECT name, sql FROM sqlite_master WHERE sql IS NOT NULL LIMIT 100"
+_LONGEST = 1_000_000
+"""Bytes of a value."""
 
 
 @dataclass(frozen=True)
@@ -67,6 +70,8 @@ class Store:
             ignored.write_text("*\n")
 
     def _open(self) -> None:
+        if not is_of_sync(self._tables):
+            raise Misuse(f"{self.folder / STATE}: has other tables than those of sync, and may come from elsewhere; remove it")
         self._tables.execute("PRAGMA synchronous = NORMAL")
         form = self._tables.execute("PRAGMA user_version").fetchone()[0]
         if form > _FORM:
@@ -84,7 +89,8 @@ class Store:
     def _file_revisions(self, table: str) -> dict[str, FileRevision]:
         """The rows of a table, but for those with names that lead out of the folder: it may come from anywhere."""
         rows = self._rows(f"SELECT unit, file, revision, text FROM {table}")
-        return {unit: FileRevision(file, *its) for unit, file, *its in rows if is_unit_name(unit) and _is_inside(file)}
+        words = [it for it in rows if all(isinstance(each, str) for each in (it[0], it[1], it[3]))]
+        return {unit: FileRevision(file, *its) for unit, file, *its in words if is_unit_name(unit) and _is_inside(file)}
 
     def _rows(self, words: str) -> list[tuple]:
         return self._tables.execute(words).fetchall()
@@ -177,6 +183,14 @@ class Store:
         folder.mkdir(exist_ok=True)
         moment = datetime.now(UTC).strftime("%Y%m%dT%H%M%S.%f")
         return folder / f"{moment}-{words}"
+
+
+def is_of_sync(tables: sqlite3.Connection) -> bool:
+    """Whether a state has the tables of sync, if any, and nothing else: in one from elsewhere a view could have rows without end. No value of it is read that is too long."""
+    tables.setlimit(sqlite3.SQLITE_LIMIT_LENGTH, _LONGEST)
+    with closing(sqlite3.connect(":memory:")) as own:
+        own.executescript(_TABLES)
+        return set(tables.execute(_SCHEMA)) <= set(own.execute(_SCHEMA))
 
 
 def _is_inside(file: str) -> bool:
