@@ -258,6 +258,18 @@ class AnswersTest(BoardTest):
             self.assertEqual(at.json("/trace", name="LAMP", end="VALUE", way="back"), {"why": "there is no network of LAMP now"})
             self.assertEqual(at.request("/trace?name=PLANT&end=A.B&way=up")[0], 400)
 
+    def test_the_units_of_each_system(self) -> None:
+        self.copy_conveyor()
+        self.write("SPARE.fb", "FUNCTION_BLOCK SPARE END_FUNCTION_BLOCK")
+        self.write("OTHER.fb", "SYSTEM OTHER APPLICATION A FBS L : LAMP; END_FBS END_APPLICATION END_SYSTEM")
+        at = self.start(".")
+        with at.viewer() as viewer:
+            viewer.settled(len(STATES) + 2)
+            self.assertEqual(at.json("/systems"), {"OTHER": ["LAMP", "OTHER"], "PLANT": sorted(STATES)})
+            self.edit("OTHER.fb", "L : LAMP", "L : SPARE")
+            viewer.until(lambda it: it.units["OTHER"]["revision"] > 1 and it.state("OTHER") != "pending")
+            self.assertEqual(at.json("/systems")["OTHER"], ["OTHER", "SPARE"])
+
     def test_where_an_instance_is_declared(self) -> None:
         at = self.conveyor()
         with at.viewer() as viewer:

@@ -123,6 +123,29 @@ class UnitsTest(PageTest):
             self.browser.value(f"document.querySelector('[data-filter={name}]').click()")
             self.assertEqual((self.browser.value(rows), self.words(f"[data-filter={name}]")), (listed, words))
 
+    def test_units_by_folder_and_by_system(self) -> None:
+        """Each group has its number of units and of faults, and a click or Enter opens and closes it."""
+        (self.folder / "more").mkdir()
+        self.write("more/SPARE.fb", "FUNCTION_BLOCK SPARE EVENT_INPUT E WITH X; END_EVENT END_FUNCTION_BLOCK")
+        self.see(self.conveyor(), len(STATES) + 1)
+        rows = "[...document.querySelectorAll('#units .row')].map((it) => it.innerText.split(/\\s+/).filter((it) => it && it !== ',').join(' '))"
+        choose = "(() => {{ const it = document.getElementById('by'); it.value = '{}'; it.dispatchEvent(new Event('change')); }})()"
+        self.browser.value(choose.format("folder"))
+        self.browser.until(f"{rows}.length === 10")
+        self.assertEqual([it for it in self.browser.value(rows) if it[0] in "▾▸"], ["▾ ./ open, 7 units", "▾ more open, 1 fault, 1 1 unit"])
+        self.browser.value("document.querySelector('#units .row').click()")
+        self.browser.until(f"{rows}.length === 3")
+        self.browser.value("document.getElementById('units').focus()")
+        self.browser.press("Enter")
+        self.browser.until(f"{rows}.length === 10")
+        self.browser.value(choose.format("system"))
+        self.browser.until(f"{rows}.length === 10 && systems")
+        self.assertEqual([it for it in self.browser.value(rows) if it[0] in "▾▸"], ["▾ PLANT open, 7 units", "▾ in no system open, 1 fault, 1 1 unit"])
+        self.browser.press("Home", "Down")
+        self.until_words("#unit", "FEEDER")
+        self.browser.press("/", *"spare", "Enter")
+        self.until_words("#unit", "SPARE")
+
     def test_enter_opens_the_first_match(self) -> None:
         self.see_conveyor()
         self.browser.press("/", *"lift", "Enter")

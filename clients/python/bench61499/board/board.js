@@ -78,18 +78,19 @@ class LongList {
   row(at) {
     const row = make("div", {
       class: "row", role: "option", id: `${this.box.id}-${at}`, "aria-posinset": at + 1, "aria-setsize": this.items.length,
-      "aria-selected": String(at === this.at), onclick: () => this.move(at),
+      "aria-selected": String(at === this.at), onclick: () => this.move(at, true),
     });
     row.style.top = `${at * LongList.height}px`;
     this.fill(row, this.items[at]);
     return row;
   }
-  move(at) {
+  /** Chooses a row: by a click, or on the way over it. */
+  move(at, isClick = false) {
     if (!this.items.length) return;
     this.at = Math.max(0, Math.min(this.items.length - 1, at));
     this.reveal();
     this.draw();
-    this.choose(this.items[this.at]);
+    this.choose(this.items[this.at], isClick);
   }
   reveal() {
     const top = this.at * LongList.height, { scrollTop, clientHeight } = this.box;
@@ -102,6 +103,9 @@ class LongList {
     if (event.key in steps && !event.altKey && !event.ctrlKey && !event.metaKey) {
       event.preventDefault();
       this.move(steps[event.key]);
+    } else if (event.key === "Enter" && this.at >= 0) {
+      event.preventDefault();
+      this.choose(this.items[this.at], true);
     }
   }
 }
@@ -186,10 +190,79 @@ const filters = {
 };
 let filter = "all";
 
-const unitList = new LongList($("units"), fillUnit, (unit) => go(unit.unit, shown.tab), () =>
+const unitList = new LongList($("units"), fillUnit, (unit, isClick) => {
+  if (unit.group === undefined) go(unit.unit, shown.tab);
+  else if (isClick) turn(unit);
+}, () =>
   board.units.size ? "No unit is like that." : "No units are known here yet.");
 
+// By what the units are listed, and which groups are closed or open otherwise than they are at first
+
+let by = "name", systems = null, asking = false;
+const turned = new Set();
+const MANY = 300;
+
+/** Which groups a unit is in. */
+const groupsOf = {
+  folder: ({ file }) => [file ? file.slice(0, Math.max(0, file.lastIndexOf("/"))).replace(board.about?.title ?? "", "").replace(/^\//, "") || "./" : "no file"],
+  system: ({ unit }) => systems?.get(unit) ?? ["in no system"],
+};
+
+function fillGroup(row, { group, units, faults, isOpen }) {
+  row.classList.add("group");
+  row.title = group;
+  row.append(make("span", { "aria-hidden": "true" }, isOpen ? "▾" : "▸"), make("span", { class: "name" }, make("bdi", {}, group)),
+    make("span", { class: "unseen" }, `, ${isOpen ? "open" : "closed"}, ${faults ? `${counted(faults, "fault")}, ` : ""}`),
+    faults ? make("span", { class: "badge number", "aria-hidden": "true" }, faults.toLocaleString("en")) : "",
+    make("span", { class: "kind number" }, counted(units.length, "unit")));
+}
+
+/** The units below their groups, in order; what is closed has its head alone. */
+function inGroups(units, isSearch) {
+  const groups = new Map();
+  for (const it of units) for (const group of groupsOf[by](it)) {
+    if (!groups.has(group)) groups.set(group, []);
+    groups.get(group).push(it);
+  }
+  const isLast = (name) => name === "in no system" || name === "no file";
+  const names = [...groups.keys()].sort((one, other) => isLast(one) - isLast(other) || inOrder(one, other));
+  return names.flatMap((group) => {
+    const its = groups.get(group), isOpen = isSearch || turned.has(`${by} ${group}`) !== (units.length <= MANY);
+    return [{ group, units: its, faults: its.reduce((sum, it) => sum + it.faults, 0), isOpen }, ...(isOpen ? its : [])];
+  });
+}
+
+function turn({ group }) {
+  const key = `${by} ${group}`;
+  if (!turned.delete(key)) turned.add(key);
+  listUnits();
+  unitList.at = unitList.items.findIndex((it) => it.group === group);
+  unitList.reveal();
+  unitList.draw();
+}
+
+async function listBy(name) {
+  by = name;
+  memory.set("list by", name);
+  await askSystems();
+  listUnits();
+}
+
+/** Which systems lead to each unit; asked for again when units have changed. */
+async function askSystems() {
+  if (by !== "system" || asking) return;
+  asking = true;
+  try {
+    const found = await ask("/systems", {});
+    systems = new Map();
+    for (const [system, units] of Object.entries(found)) for (const unit of units) systems.set(unit, [...(systems.get(unit) ?? []), system]);
+    listUnits();
+  } catch { systems = null; }
+  asking = false;
+}
+
 function fillUnit(row, unit) {
+  if (unit.group !== undefined) return fillGroup(row, unit);
   const gone = unit.state === "absent" || unit.state === "unknown";
   row.classList.toggle("gone", unit.state === "absent");
   const words = unit.state === "faulty" ? counted(unit.faults, "fault") : STATES[unit.state];
@@ -205,7 +278,7 @@ function listUnits() {
   const wanted = $("search").value.trim().toUpperCase();
   const items = board.names.map((name) => board.units.get(name))
     .filter((it) => it.unit.includes(wanted) && filters[filter][1](it));
-  unitList.show(items, board.units.get(shown.unit));
+  unitList.show(by === "name" ? items : inGroups(items, Boolean(wanted)), board.units.get(shown.unit));
 }
 
 function count() {
@@ -265,6 +338,7 @@ function showNews(news) {
   showCounts();
   listUnits();
   if (news.about) unitList.reveal();
+  if (news.about || news.changes.length) askSystems();
   if (news.changes.length) showChanges(news.changes, news.about);
   const touched = news.about || !shown.unit || news.units.some(([unit]) => unit === shown.unit) || news.answers.some(([, unit]) => unit === shown.unit);
   if (touched) refresh();
@@ -616,7 +690,10 @@ class NetworkView {
     nameShortly(this.shown);
     const frames = view.folds.map(([path]) => path).sort((one, other) => other.length - one.length);
     const round = (path) => frames.find((frame) => path.startsWith(`${frame}.`));
-    for (const it of this.shown) it.label = round(it.path) ? it.path.slice(round(it.path).length + 1) : it.path;
+    for (const it of this.shown) {
+      it.label = round(it.path) ? it.path.slice(round(it.path).length + 1) : it.path;
+      it.brief = round(it.path) ? it.label : it.short;
+    }
     for (const it of this.folding) it.hidden = !view.levels;
     this.wires = view.wires.map(([sort, a, aLeft, aRow, b, bLeft, bRow, label, cut, way, count]) => {
       const from = this.end(this.boxes[a], aLeft, aRow, sort), to = this.end(this.boxes[b], bLeft, bRow, sort);
@@ -1181,7 +1258,8 @@ class NetworkView {
     context.textBaseline = "middle";
     context.fillStyle = this.colour("ink");
     context.font = `600 ${size}px ${this.colour("sans")}`;
-    context.fillText(box.inner ? `⊞ ${box.short}` : box.short, box.x + box.w / 2, box.y + box.h / 2, box.w - 4);
+    const name = this.scale > 0.3 ? box.brief : box.short;  // Frames have their names where these can be read.
+    context.fillText(box.inner ? `⊞ ${name}` : name, box.x + box.w / 2, box.y + box.h / 2, box.w - 4);
   }
 
   paintBlock(box) {
@@ -1382,10 +1460,10 @@ function nextFault() {
 }
 
 function onKey(event) {
-  const inField = event.target.matches("input:not([type=checkbox])") || $("help").open;
+  const inField = event.target.matches("input:not([type=checkbox]), select") || $("help").open;
   if (inField) {
     if (event.key === "ArrowDown" && event.target === $("search")) { event.preventDefault(); $("units").focus(); unitList.move(Math.max(0, unitList.at)); }
-    if (event.key === "Enter" && event.target === $("search")) unitList.move(0);
+    if (event.key === "Enter" && event.target === $("search")) unitList.move(Math.max(0, unitList.items.findIndex((it) => it.group === undefined)));
     return;
   }
   if (!$("single").checked || event.ctrlKey || event.altKey || event.metaKey || !Object.hasOwn(KEYS, event.key)) return;
@@ -1422,6 +1500,9 @@ function begin() {
   $("single").addEventListener("change", () => memory.set("single keys", $("single").checked));
   $("help-button").addEventListener("click", () => $("help").showModal());
   $("search").addEventListener("input", listUnits);
+  by = memory.get("list by") ?? "name";
+  $("by").value = by;
+  $("by").addEventListener("change", () => listBy($("by").value));
   $("tabs").addEventListener("keydown", tabKey);
   $("look").addEventListener("submit", look);
   document.addEventListener("keydown", onKey);

@@ -22,6 +22,7 @@ from urllib.parse import parse_qsl, urlsplit
 
 from bench61499 import NAME_LIMIT
 from bench61499.board.state import Board, News
+from bench61499.board.systems import Systems
 from bench61499.board.traced import trace_view
 from bench61499.board.views import instance_view, net_view, plan_view, unit_view
 from bench61499.language.levels import AUTO
@@ -61,6 +62,7 @@ class BoardServer(ThreadingHTTPServer):
         self.hosts = frozenset(f"{name}:{self.server_port}".removesuffix(":80") for name in ("127.0.0.1", "localhost"))
         self.page = read_page()
         self.connections = Connections(CONNECTIONS)
+        self.systems = Systems()
 
     @property
     def address(self) -> str:
@@ -161,7 +163,7 @@ class _Handler(BaseHTTPRequestHandler):
 
     def do_GET(self) -> None:
         self._answer({"/": self._page, "/events": self._events, "/unit": self._unit, "/net": self._net, "/plan": self._plan,
-                      "/instance": self._instance, "/trace": self._trace})
+                      "/instance": self._instance, "/trace": self._trace, "/systems": self._systems})
 
     def do_POST(self) -> None:
         self._answer({"/look": self._look})
@@ -254,6 +256,11 @@ class _Handler(BaseHTTPRequestHandler):
             raise BadRequest("a way is back or forth")
         unit = unit_named(name)
         self._send_json(trace_view(board, unit, board.wish(("net", unit)), board.wish(("deploy", unit)), end, way == "back"))
+
+    def _systems(self, query: dict[str, str]) -> None:
+        """The units that each system leads to."""
+        words(query)
+        self._send_json(self.server.systems.view(self.server.board))
 
     def _look(self, query: dict[str, str]) -> None:
         """Adds a unit that is to be looked at, in a workbench whose units nobody can list."""
