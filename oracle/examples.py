@@ -33,7 +33,7 @@ def units(number, with_s_and_u=False, **texts_and_faults):
     if with_s_and_u:
         texts.update(S=S, U=U)
         wanted.update(S=[], U=[])
-    lib = oracle.Library(texts, "structures")
+    lib = oracle.Library(texts)
     for n, want in wanted.items():
         same(number, "faults of " + n, [list(f) for f in want], named(lib.faults(n)))
 
@@ -168,14 +168,14 @@ STEP_SW = "SUBAPPLICATION SW FBS F:V; END_FBS END_SUBAPPLICATION"
 class Steps:
     """A library that changes: what each change reaches, and the faults and nets after it."""
     def __init__(self, number, **texts):
-        self.number, self.lib = number, oracle.Library(texts, "structures")
+        self.number, self.lib = number, oracle.Library(texts)
 
     def change(self, name, text, faults="", nets=""):
         """The faults and nets that the change of a unit reaches, by their names; a text of None takes it away."""
         texts = {n: t for n, t in self.lib.texts.items() if n != name}
         if text is not None:
             texts[name] = text
-        self.lib = oracle.Library(texts, "structures")
+        self.lib = oracle.Library(texts)
         got = self.lib.reached_by([name])
         want = {("faults", n) for n in faults.split()} | {("net", n) for n in nets.split()}
         same(self.number, "reached by %s" % name, sorted(want), sorted(got))

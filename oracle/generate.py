@@ -1,6 +1,6 @@
-"""Random small libraries. generate.py SEED COUNT OUT.jsonl [plain|tokens|deep|steps|nets] [plain|read|structures] writes
+"""Random small libraries. generate.py SEED COUNT OUT.jsonl [plain|tokens|deep|steps|nets] [plain|structures] writes
 request lines for COUNT libraries one after the other, a script for compare.py, and beside it OUT.json, the list of libraries (name ->
-text) in the same order. The last word is the level of the language (see oracle.py); above plain nets and plans are asked for too. Of
+text) in the same order. With structures units declare and use them, and nets and plans are asked for too. Of
 the kinds steps and nets each library but every eighth is the one before it with a unit or two changed, and all is asked for before the
 work as well; nets have units with hardly a fault, that only hold and carry one another."""
 import json
@@ -904,7 +904,7 @@ def main():
     seed, count, out = int(sys.argv[1]), int(sys.argv[2]), sys.argv[3]
     kind = sys.argv[4] if len(sys.argv) > 4 else "plain"
     level = sys.argv[5] if len(sys.argv) > 5 else "plain"
-    assert level in ("plain", "read", "structures"), level
+    assert level in ("plain", "structures"), level
     g = Gen(random.Random(seed), level)
     make = {"plain": g.library, "tokens": lambda: token_library(g.r, level), "deep": lambda: deep_library(g.r, level)}
     steps = kind in ("steps", "nets")

@@ -45,7 +45,7 @@ class Machine:
         self.units, self.history = units, history
         self.put, self.commits, self.pending, self.out = {}, 0, set(), set()
         self.earlier, self.calls = 0, 0
-        self.lib = oracle.Library({}, "structures")
+        self.lib = oracle.Library({})
 
     def record(self):
         """Counts a call; a full history refuses it first of all."""
@@ -92,7 +92,7 @@ class Machine:
     def move_to(self, after, changed):
         """Takes these texts; new keys and those that the change of these names reaches are pending, and not handed out."""
         before, self.put = self.lib, after
-        self.lib = oracle.Library({name: text for name, (_, text) in after.items()}, "structures")
+        self.lib = oracle.Library({name: text for name, (_, text) in after.items()})
         keys = self.lib.keys()
         waiting = (before.reached_by(changed) | self.lib.reached_by(changed) | (keys - before.keys())) & keys
         self.pending = (self.pending & keys) | waiting

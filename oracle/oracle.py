@@ -1,15 +1,9 @@
 """An independent reading of the language and its 24 faults, written from the rules alone.
 
 faults(library, unit) gives the sorted list of (code, start, end); library maps upper-case names to texts.
-Library(texts, level) answers more: what a unit mentions, what is near and far, and of nets their form and their blocks
+Library(texts) answers more: what a unit mentions, what is near and far, and of nets their form and their blocks
 (networks.py has their links and borders, plans.py the plans).
 COUNT counts what was reached: operators, statements, ends, conditions, kinds of types and constants.
-
-The levels of the language are
-  plain       without structures: codes 1 to 22
-  read        structures and references through fields are read, and nothing more is made of them: a reference of more than two
-              names, or with a subscript before a further name, is not judged; near and far go by parts alone
-  structures  all of it: codes 1 to 24
 """
 import re
 import sys
@@ -20,7 +14,6 @@ CODES = ["", "SYNTAX", "NAME_DIFFERS", "DUPLICATE", "MIXED_KIND", "UNKNOWN_TYPE"
          "STATE_UNKNOWN", "EVENT_UNKNOWN", "ALGORITHM_UNKNOWN", "VARIABLE_UNKNOWN", "CLASS", "PORT_UNKNOWN",
          "PORT_SIDE", "DATA_TYPE", "SECOND_SOURCE", "SECOND_ADAPTER", "PASS_THROUGH", "PARAMETER_UNKNOWN",
          "LITERAL", "MAPPED_TWICE", "NO_SUCH_RESOURCE", "MEMBER_UNKNOWN", "STRUCT_RECURSIVE"]
-LEVELS = ["plain", "read", "structures"]
 COUNT = Counter()
 sys.setrecursionlimit(50_000)
 
@@ -32,8 +25,7 @@ EVENT_OUTPUT END_EVENT VAR VAR_INPUT VAR_OUTPUT END_VAR PLUGS END_PLUGS SOCKETS 
 END_SUBAPPS EVENT_CONNECTIONS DATA_CONNECTIONS ADAPTER_CONNECTIONS END_CONNECTIONS EC_STATES END_STATES
 EC_TRANSITIONS END_TRANSITIONS ALGORITHM END_ALGORITHM SERVICE END_SERVICE WITH TO ARRAY OF IF THEN ELSIF ELSE END_IF
 CASE END_CASE FOR BY DO END_FOR WHILE END_WHILE REPEAT UNTIL END_REPEAT EXIT RETURN AND OR XOR NOT MOD TRUE
-FALSE""".split())
-STRUCTURE_WORDS = {"TYPE", "END_TYPE", "STRUCT", "END_STRUCT"}
+FALSE TYPE END_TYPE STRUCT END_STRUCT""".split())
 
 W = r"[A-Za-z_][A-Za-z0-9_]*"
 WORD = re.compile(W)
@@ -49,14 +41,14 @@ DATES = {"D", "DATE", "TOD", "TIME_OF_DAY", "DT", "DATE_AND_TIME"}
 
 
 class Tok:
-    def __init__(self, kind, text, start, end, structures):
+    def __init__(self, kind, text, start, end):
         self.kind, self.text, self.start, self.end = kind, text, start, end
         self.up = text.upper() if text.isascii() else text
-        self.reserved = kind == "WORD" and (self.up in RESERVED or structures and self.up in STRUCTURE_WORDS)
+        self.reserved = kind == "WORD" and self.up in RESERVED
         self.name = kind == "WORD" and not self.reserved and len(text) <= 64
 
 
-def tokens(text, structures=False):
+def tokens(text):
     """The tokens of a text with byte places, or ("bad", start, end)."""
     size = len(text.encode())
     if text.isascii():
@@ -97,7 +89,7 @@ def tokens(text, structures=False):
         if tries:
             best = max(tries, key=lambda t: t[1])
         kind, j = best
-        out.append(Tok(kind, text[i:j], at[i], at[j], structures))
+        out.append(Tok(kind, text[i:j], at[i], at[j]))
         i = j
     return out
 
@@ -186,8 +178,8 @@ class Bag:
 
 
 class Parser:
-    def __init__(self, toks, size, structures):
-        self.t, self.i, self.size, self.structures = toks, 0, size, structures
+    def __init__(self, toks, size):
+        self.t, self.i, self.size = toks, 0, size
 
     # -- small steps
     def peek(self):
@@ -231,9 +223,8 @@ class Parser:
 
     # -- units
     def unit(self):
-        kinds = {"FUNCTION_BLOCK": "block", "ADAPTER": "adapter", "SUBAPPLICATION": "subapp", "SYSTEM": "system"}
-        if self.structures:
-            kinds["TYPE"] = "structure"
+        kinds = {"FUNCTION_BLOCK": "block", "ADAPTER": "adapter", "SUBAPPLICATION": "subapp", "SYSTEM": "system",
+                 "TYPE": "structure"}
         kw = self.need_word(*kinds).up
         u = Bag(kind=kinds[kw], name=self.name(), events=[], vars=[], inits=[], insts=[], conns=[], states=[], trans=[],
                 algs=[], has_states=False, has_net=False, apps=[], devices=[], mappings=[])
@@ -683,9 +674,9 @@ class Parser:
 
     # -- expressions
     def ref(self, k):
-        """Names with subscripts or without; before structures two names at most, and subscripts only after the last one."""
+        """Names with subscripts or without."""
         steps = [self.step(k)]
-        while self.sym(".") and (self.structures or len(steps) == 1 and steps[0].subs is None):
+        while self.sym("."):
             self.take()
             steps.append(self.step(k))
         return Bag(form="ref", steps=steps, start=steps[0].name.start, end=steps[-1].end)
@@ -745,13 +736,13 @@ class Parser:
 
 
 @lru_cache(maxsize=4096)
-def read(text, structures=False):
+def read(text):
     """("tree", unit) or ("broken", start, end)"""
-    ts = tokens(text, structures)
+    ts = tokens(text)
     if isinstance(ts, tuple):
         return ("broken", ts[1], ts[2])
     try:
-        return ("tree", Parser(ts, len(text.encode()), structures).unit())
+        return ("tree", Parser(ts, len(text.encode())).unit())
     except Broken as b:
         return ("broken",) + b.span
 
@@ -762,15 +753,14 @@ LARGEST = 4096
 
 
 class Library:
-    """Texts by upper-case names, and what must be reported of them at a level of the language."""
-    def __init__(self, texts, level="plain"):
-        assert level in LEVELS, level
-        self.texts, self.level, self.judged = texts, level, {}
+    """Texts by upper-case names, and what must be reported of them."""
+    def __init__(self, texts):
+        self.texts, self.checked = texts, {}
 
     def read(self, name):
         """As read; None where the name is absent."""
         text = self.texts.get(name)
-        return None if text is None else read(text, self.level != "plain")
+        return None if text is None else read(text)
 
     def tree(self, name):
         """The unit of a name, None if it is absent or broken."""
@@ -778,9 +768,9 @@ class Library:
         return r[1] if r is not None and r[0] == "tree" else None
 
     def faults(self, name):
-        if name not in self.judged:
-            self.judged[name] = Check(self, name).run()
-        return self.judged[name]
+        if name not in self.checked:
+            self.checked[name] = Check(self, name).run()
+        return self.checked[name]
 
     def parts(self, name):
         """The types of a unit's plugs, sockets and instances."""
@@ -800,8 +790,6 @@ class Library:
 
     def carries(self, name):
         """The value mentions of a unit, and those of the structures among them, and so on."""
-        if self.level != "structures":
-            return set()
         return reached(self.values(name), lambda n: self.values(n) if self.is_structure(n) else ())
 
     def near(self, name):
@@ -809,8 +797,7 @@ class Library:
         return around.union(*(self.carries(n) for n in around))
 
     def far(self, name):
-        both = self.level == "structures"
-        return reached({name}, lambda n: self.parts(n) | (self.values(n) if both else set()))
+        return reached({name}, lambda n: self.parts(n) | self.values(n))
 
     def net(self, name):
         """None where the unit has no net; else ("blocked", names), ("recursive", names), ("too_large", None) or
@@ -888,7 +875,7 @@ WANTED = {"plug": "adapter", "socket": "adapter", "fb": "block", "sub": "subapp"
 
 class Check:
     def __init__(self, library, unit):
-        self.lib, self.unit, self.level, self.out = library, unit, library.level, set()
+        self.lib, self.unit, self.out = library, unit, set()
 
     def add(self, code, at, end=None):
         self.out.add((at.start, (end or at).end, code))
@@ -1162,9 +1149,6 @@ class Check:
         for step in r.steps:
             for e in step.subs or []:
                 self.want(e, ("I", "Num", "Any"), "subscript")
-        if self.level == "read" and (len(r.steps) > 2 or len(r.steps) == 2 and r.steps[0].subs is not None):
-            COUNT["ref through fields not judged"] += 1
-            return "Free"
         base = self.base(r)
         if base is None:
             return "Free"
@@ -1195,8 +1179,6 @@ class Check:
                 COUNT["ref %s not judged" % what] += 1
                 return None
             var = first(t.vars).get(two.name.up)
-        elif two is not None and self.level != "structures":
-            what, var = "?.X" if i is None else i.role + ".X", None
         elif two is not None:
             what = "X.F" if i is None else "X.F beside " + i.role
         subs = r.steps[used - 1].subs
@@ -1268,5 +1250,5 @@ class Check:
         return "Num" if j == "Any" and op not in ("OR", "XOR", "AND", "&") else j
 
 
-def faults(library, unit, level="plain"):
-    return Library(library, level).faults(unit)
+def faults(library, unit):
+    return Library(library).faults(unit)

@@ -18,13 +18,17 @@ BLOCK = re.compile(r"^(<!-- (made|measured): (.+?) -->\n)(.*?)^(<!-- end -->)$",
 
 
 def tools():
-    """Of each command of tools/ the sentence at its head."""
+    """Of each command of tools/ the sentence at its head, and why it is here."""
     rows = []
     for path in sorted(it for it in glob.glob(f"{code_parts.TOP}/tools/*") if os.access(it, os.X_OK) and os.path.isfile(it)):
         with open(path, encoding="utf-8") as file:
-            head = re.match(r'#![^\n]*\n(?:"""|# )(.*?)(?:\n\n|\n(?=set -)|""")', file.read(), re.S)
-        rows.append(f"| `{os.path.basename(path)}` | {' '.join(head[1].split())} |")
-    return "\n".join(["| Tool | What it does |", "|---|---|", *rows, ""])
+            text = file.read()
+        head = re.match(r'#![^\n]*\n(?:"""|# )(.*?)(?:\n\n|\n(?=# |set -)|""")', text, re.S)
+        why = re.search(r"^(?:# )?Why it is here: ([^\n]*?)\.(?:\"\"\")?$", text, re.M)
+        if not why:
+            sys.exit(f"{path} has no line `Why it is here: ..`")
+        rows.append(f"| `{os.path.basename(path)}` | {' '.join(head[1].split())} | {why[1]} |")
+    return "\n".join(["| Tool | What it does | Why it is here |", "|---|---|---|", *rows, ""])
 
 
 def neovim():

@@ -8,7 +8,9 @@ compares it with what would be made now, and `tools/check-docs --mend` makes it.
 
 A definition is an item of a file of specs/, with the comment above it; a type or constant of the program that definitions name is listed with its Rust text,
 and a trait that a call is generic in with what its methods ensure. If a law proves that a relation defines what a function computes, the page has the law and
-the relation in place of the function. What the kit defines (numbers, lists, options) is not listed."""
+the relation in place of the function. What the kit defines (numbers, lists, options) is not listed.
+
+Why it is here: rt lists no definitions on which a contract rests."""
 import argparse
 import functools
 import hashlib

@@ -6,7 +6,9 @@ tools/plain_words.py --groups    how many each group of sources has
 
 tools/check-docs asks for the pages of PAGES and those of wrong bodies, and for all comments and docstrings: of the code, specs and proofs of crates, of Python, Rust
 and shell. Code, quoted output, the targets of links and what tools make are not read. tools/plain_words.known has the groups that may have some, with how many:
-proofs and code of crates, whose comments can't be changed without a new proof, and the clients. `tools/check-docs --mend` lowers a number, and raises none."""
+proofs and code of crates, whose comments can't be changed without a new proof, and the clients. `tools/check-docs --mend` lowers a number, and raises none.
+
+Why it is here: no linter knows these words."""
 import functools
 import glob
 import io

@@ -82,7 +82,7 @@ class FaultsTest(unittest.TestCase):
     def test_each_code_is_given(self):
         self.assertEqual(set(oracle.CODES[1:]), set(FAULTS))
         for code, text in FAULTS.items():
-            found = oracle.Library({"AD": AD, "B": FB, "U": text}, "structures").faults("U")
+            found = oracle.Library({"AD": AD, "B": FB, "U": text}).faults("U")
             self.assertEqual({code}, {oracle.CODES[it] for it, _, _ in found})
 
 
