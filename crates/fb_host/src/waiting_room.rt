@@ -22,17 +22,24 @@ struct WaitingState {
 }
 
 impl WaitingState {
+    /// The place of the first one of which no byte has come.
+    fn first_silent(&self) -> Option<usize>
+        ensures there { IfSome result (λ place. place < length self.now.waiting.items) }
+        ensures first { result ≡ position (λ it. not it.has_begun) self.now.waiting.items }
+    {
+        self.waiting.iter().position(|it| !it.has_begun)
+    }
+
     /// The place of the one that has waited longest without a byte; if a byte of each has come, the place of the first one.
     fn longest(&self) -> Option<usize>
         ensures there { IfSome result (λ place. place < length self.now.waiting.items) }
         ensures silent { IfSome (position (λ it. not it.has_begun) self.now.waiting.items)
             (λ place. result ≡ Some place) }
     {
-        let silent = self.waiting.iter().position(|it| !it.has_begun);
-        if silent.is_none() && !self.waiting.is_empty() {
-            return Some(0);
+        match self.first_silent() {
+            Some(place) => Some(place),
+            None => (!self.waiting.is_empty()).then_some(0),
         }
-        silent
     }
 
     fn place_of(&self, number: u64) -> Option<usize>
