@@ -653,7 +653,7 @@ class NetworkView {
       if (grip && !grip.moved) this.choose(this.at(event.offsetX, event.offsetY), false);
       grip = null;
     });
-    canvas.addEventListener("dblclick", () => this.chosen && go(this.chosen.type, "text"));
+    canvas.addEventListener("dblclick", () => this.chosen && go(this.chosen.type.toUpperCase(), "text"));
     canvas.addEventListener("wheel", (event) => {
       event.preventDefault();
       this.zoom(Math.exp(-event.deltaY / 500), event.offsetX, event.offsetY);
@@ -719,7 +719,7 @@ class NetworkView {
     else if (event.key === "-") this.zoom(1 / 1.3);
     else if (event.key === "0") this.fit();
     else if (event.key === "Escape") this.choose(null, false);
-    else if (event.key === "Enter" && this.chosen) go(this.chosen.type, "text");
+    else if (event.key === "Enter" && this.chosen) go(this.chosen.type.toUpperCase(), "text");
     else if (event.key === "i" && this.chosen) this.declared();
     else return;
     event.preventDefault();
@@ -745,7 +745,7 @@ class NetworkView {
 
   search() {
     const wanted = this.field.value.trim().toUpperCase();
-    const items = wanted ? this.blocks.filter((it) => it.path.includes(wanted) || it.type.includes(wanted)) : this.blocks;
+    const items = wanted ? this.blocks.filter((it) => it.path.toUpperCase().includes(wanted) || it.type.toUpperCase().includes(wanted)) : this.blocks;
     this.found = wanted ? new Set(items) : new Set();
     this.list.show(items, this.chosen);
     this.matches.textContent = wanted ? `${items.length.toLocaleString("en")} of ${counted(this.blocks.length, "block")}` : counted(this.blocks.length, "block");
@@ -776,7 +776,7 @@ class NetworkView {
     const links = block.ends.slice(0, 60).map((wire) => this.linkItem(block, wire));
     if (block.ends.length > 60) links.push(make("li", { class: "dim" }, `and ${block.ends.length - 60} more`));
     this.about.replaceChildren(
-      make("h3", { class: "mono" }, block.path), make("p", {}, "Type ", link(block.type, () => go(block.type, "text"))),
+      make("h3", { class: "mono" }, block.path), make("p", {}, "Type ", link(block.type, () => go(block.type.toUpperCase(), "text"))),
       ...(block.home ? [make("p", {}, `On ${block.home}`)] : []), make("p", {}, link("Where it is declared", () => this.declared())),
       make("ul", { "aria-label": "Links" }, ...links));
   }

@@ -8,8 +8,10 @@ from itertools import zip_longest
 from typing import Any
 
 from bench61499 import Deploy, Flat, Plan, Sort
+from bench61499.language.as_declared import AsDeclared
 from bench61499.language.layers import Edge, Gaps, Layout, Size, layered
 from bench61499.language.network import Box, End, Network, Port, homes
+from bench61499.language.texts import Texts
 
 HEAD = 42
 """Height of a box's head, with its path and its type."""
@@ -51,11 +53,11 @@ class _Shape:
 class Picture:
     """The picture of a network, for a window that is `aspect` times as wide as it is tall.
 
-    `deploy` tells the resources and the cut links of a system that has a plan.
+    `deploy` tells the resources and the cut links of a system that has a plan; `names` are what its names are shown as.
     """
 
-    def __init__(self, unit: str, texts: Mapping[str, str], net: Flat, deploy: Deploy | None, aspect: float):
-        self._aspect = aspect
+    def __init__(self, unit: str, texts: Mapping[str, str], net: Flat, deploy: Deploy | None, aspect: float, names: AsDeclared | None = None):
+        self._aspect, self._names = aspect, names or AsDeclared(Texts.of(texts), unit)
         self._network = Network(unit, texts, net)
         self._plan = deploy if isinstance(deploy, Plan) else None
         placed = homes(deploy)
@@ -74,10 +76,20 @@ class Picture:
         corners, width, height = self._placed([(wire[1], wire[4]) for wire in wires])
         ports = _Numbered()
         boxes = [
-            [it.name, it.type, it.home, it.left, round(x), round(y), *it.size, ports.number([_row(row) for row in it.rows])]
+            [*self._shown(it), it.left, round(x), round(y), *it.size, ports.number([self._row(it.type, row) for row in it.rows])]
             for it, (x, y) in zip(self._shapes, corners)
         ]
         return {"width": round(width), "height": round(height), "boxes": boxes, "rows": ports.values, "wires": wires, "frames": self._frames}
+
+    def _shown(self, it: _Shape) -> tuple[str, str, str]:
+        """The name, the type and the resource of a shape."""
+        if it.left is not None:
+            return self._names.own_port(it.type, it.name), it.type, it.home
+        return self._names.path(it.name), self._names.type(it.type), self._names.resource(it.home) if it.home else ""
+
+    def _row(self, type_: str, row: tuple[Port | None, Port | None]) -> list[Any]:
+        left, right = (self._names.port_of(type_, it.sort, it.name) if it else "" for it in row)
+        return [next((it.sort for it in row if it), ""), left, right]
 
     def _wires(self) -> list[list[Any]]:
         """The wires and the tags' own: sort, box, side and row of the source, the same of the destination, label, whether it is cut, direction."""
@@ -114,7 +126,7 @@ class Picture:
         for group, (left, top), size in zip(groups, whole.corners, sizes):
             inner_left, inner_top = (left + PAD, top + 2 * PAD) if group else (left, top)
             if group:
-                self._frames.append([group, round(left), round(top), *(round(it) for it in size)])
+                self._frames.append([self._names.resource(group), round(left), round(top), *(round(it) for it in size)])
             for at, (x, y) in zip(members[group], layouts[group].corners):
                 corners[at] = (inner_left + x, inner_top + y)
         return corners, whole.width, whole.height
@@ -155,9 +167,3 @@ def _of(side: list[Port], sort: Sort) -> list[Port]:
 
 def _places_of(rows: Rows) -> dict[Port, int]:
     return {port: at for at, row in enumerate(rows) for port in row if port}
-
-
-def _row(row: tuple[Port | None, Port | None]) -> list[Any]:
-    left, right = row
-    sort = left.sort if left else right.sort if right else ""
-    return [sort, left.name if left else "", right.name if right else ""]

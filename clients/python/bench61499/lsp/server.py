@@ -10,7 +10,7 @@ from bench61499.language.positions import edited
 from bench61499.lsp.answers import CAPABILITIES, Answers, CantAnswer
 from bench61499.lsp.checking import Checking
 from bench61499.lsp.documents import path_of
-from bench61499.lsp.edits import file_operations
+from bench61499.lsp.edits import changes_of, file_operations
 from bench61499.lsp.rename import CantRename
 from bench61499.lsp.rpc import (
     ERROR, INVALID_PARAMS, INVALID_REQUEST, METHOD_NOT_FOUND, NOT_INITIALIZED, REQUEST_CANCELLED, REQUEST_FAILED, Message, failure, tell,
@@ -97,7 +97,7 @@ class Server:
         try:
             result = self._answers.answer(method, params)
             if method == "textDocument/rename" and result:
-                self._expect(result["changes"])
+                self._expect(changes_of(result))
             return {"result": result}
         except (CantRename, CantAnswer) as error:
             return failure(REQUEST_FAILED, str(error))

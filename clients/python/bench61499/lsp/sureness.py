@@ -29,8 +29,11 @@ def _as_other(plant: Plant, key: Key) -> str | None:
     """Where a port of a block is used as if the block were a structure."""
     its = plant.unit(key.unit)
     other = key._replace(space=FIELD)
-    uses = plant.uses(other) if its and its.kind == "FUNCTION_BLOCK" and key.space == VARIABLE else ()
-    return next((f"{place(text, found[0].start)}: {text.places.words(found[0].start, found[0].end)} behind a variable of this type" for text, found in uses), None)
+    for text, uses in plant.uses(other) if its and its.kind == "FUNCTION_BLOCK" and key.space == VARIABLE else ():
+        for use in uses:
+            if any(body.begin <= use.start < body.end for body in text.unit.bodies):
+                return f"{place(text, use.start)}: {text.places.words(use.start, use.end)} behind a variable of this type"
+    return None
 
 
 def captured(plant: Plant, key: Key, name: str) -> str | None:
