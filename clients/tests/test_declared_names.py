@@ -113,6 +113,7 @@ class BoardTest(unittest.TestCase):
         self.assertEqual([it[:3] for it in view["boxes"]], [["Water.Left.One", "Pump", "Plc.Main"], ["Water.Left.Two", "Tank", "Plc.Main"], ["Water.Source", "Tank", "Plc.Other"]])
         self.assertEqual([it[0] for it in view["frames"]], ["Plc.Main", "Plc.Other"])
         self.assertIn([["event", "Start", "Done"], ["data", "Level", ""], ["data", "Most", ""], ["adapter", "", "Motor"]], view["rows"])
+        self.assertEqual(sorted(it[7] for it in view["wires"]), ["", "", "TRIPPED", "Tripped"])
         tags = [it for it in Picture("PART", texts, part, None, 1.0).view()["boxes"] if it[3] is not None]
         self.assertEqual([it[:2] for it in tags], [["In", "event"]])
 

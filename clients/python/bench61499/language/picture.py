@@ -99,7 +99,8 @@ class Picture:
         for wire in self._network.wires:
             ends = [self._end(wire.source, rows), self._end(wire.destination, rows)]
             one, other = reversed(ends) if wire.is_backward else ends
-            wires.append([wire.link.sort, *one, *other, wire.inner, wire.link in cuts, "back" if wire.is_backward else "forth"])
+            inner = self._names.link(wire.link).source.rpartition(".")[2] if wire.inner else ""
+            wires.append([wire.link.sort, *one, *other, inner, wire.link in cuts, "back" if wire.is_backward else "forth"])
         for tag in self._network.tags:
             outside = [self._tags[tag.border.sort, tag.border.port], not tag.left, -1]
             inside = self._end(tag.inside, rows)
