@@ -56,8 +56,8 @@ class ProjectTest(ExchangeTest):
     def test_the_plan_has_the_parameters_of_subapplications(self) -> None:
         ran = run("plan", "PUMPSTATION", "--files", "lib", "--program", workbench(), folder=self.folder)
         self.assertEqual((ran.returncode, ran.stderr), (0, ""))
-        for words in ("WRITE STATIONAPP.PUMP1.OUTPUT.PARAMS 'DO.0'", "WRITE STATIONAPP.PUMP2.OUTPUT.PARAMS 'DO.1'", "WRITE STATIONAPP.PUMP2.CONTROL.LIMIT 4.5",
-                      "WRITE STATIONAPP.PUMP1.ALARM.TAG 'pump 1'", "WRITE STATIONAPP.SIGNALS.INPUT.PARAMS 'IW.1'", "WRITE STATIONAPP.PUMP1.STARTS.MOST 6"):
+        for words in ("WRITE StationApp.Pump1.Output.PARAMS 'DO.0'", "WRITE StationApp.Pump2.Output.PARAMS 'DO.1'", "WRITE StationApp.Pump2.Control.Limit 4.5",
+                      "WRITE StationApp.Pump1.Alarm.Tag 'pump 1'", "WRITE StationApp.Signals.Input.PARAMS 'IW.1'", "WRITE StationApp.Pump1.Starts.Most 6"):
             self.assertIn(f"  {words}\n", ran.stdout)
 
     def test_boot_files(self) -> None:

@@ -51,7 +51,7 @@ REPEAT N := N - 1; UNTIL N = 0 END_REPEAT; WHILE N < 10 DO N := N + 1; CONTINUE;
 D.Speed := 1.0; G := D.Tripped; d.speed := D.SPEED;
 /* it's (x) */ OUT := X; // foo(
 (* bar( *) {pragma foo} OUT := 1e5 + 1.0E-3; N := 2#1010 MOD INT#-5; G := TOD#12:30:00.5 > TIME_OF_DAY#1:2:3; OUT := REAL#1.0E-5;
-THIS.OUT := foo::BAR; plant::Fun(X); THIS.Foo(A := X).b := 3;
+THIS.OUT := foo::BAR; plant::Fun(X); THIS.Foo(A := X).b := 3; G := REF(THIS) = NULL; N := my::pkg::COLOR#RED; Q();
 N := TIME_TO_INT(T#5s); OUT := TO_REAL(N); OUT := TRUNC(X) + MAX_REAL(X, 1.0) + ABS(X) + SEL(G, X, X); N := WORD_BCD_TO_UINT(W); N := AND(N, 1) OR XOR(N, 2);
 OUT := REF(X)^; N := REAL_TRUNC_INT(X) ** 2; G := (N = 1) AND_THEN G OR_ELSE X <> 1.0 & G;
 S.Value := X; A[N].Value := A[TO_INT(X)].Value;
@@ -137,6 +137,12 @@ class ReaderTest(unittest.TestCase):
         unit = texts.unit("B")
         self.assertEqual([it.code for it in doubtful(text, unit, texts, {"SENSOR", "TIMER"}.__contains__)], ["NO_SUCH_VARIABLE"])
         self.assertEqual(doubtful(text, unit, texts, {"B"}.__contains__), [])
+
+    def test_a_unit_of_which_no_text_is_known(self) -> None:
+        """As in a workbench of a team."""
+        text = BLOCK % "VAR_TEMP r : RECIPE; END_VAR r.X := 1; N := RED;"
+        texts = Texts.of({**TEXTS, "B": text})
+        self.assertEqual(doubtful(text, texts.unit("B"), texts, lambda _: False, {"RECIPE"}), [])
 
     def test_names_that_are_others_in_a_text(self) -> None:
         """A body is as a file has it: `Type` for the variable `Type_`, and names of other alphabets."""
@@ -283,6 +289,16 @@ class EditorTest(LspTest):
         unit = self.server.ask("documentSymbol", self.folder / "B.fb")[0]
         algorithm = next(it for it in unit["children"] if it["name"] == "Q")
         self.assertEqual([it["name"] for it in algorithm["children"]], ["step"])
+
+    def test_completion(self) -> None:
+        """While it is typed, and so can't be read."""
+        text = (BLOCK % self.BODY).replace("LIMIT(X, step, D.Speed)", "S. + ")
+        self.server.change(self.folder / "B.fb", text)
+        self.write("B.fb", text)
+        self.assertEqual([it["label"] for it in self.ask("completion", "S. + ", 2)], ["Value", "Valid"])
+        self.assertEqual([it["label"] for it in self.ask("completion", "S.Value", 2)], ["Value", "Valid"])
+        labels = [it["label"] for it in self.ask("completion", "S. + ", 5)]
+        self.assertTrue({"step", "X", "T1", "LIMIT", "D"} <= set(labels), labels)
 
     def test_renames_go_through(self) -> None:
         self.assertEqual(self.renamed("step : REAL", "part"), {"B.fb": ["part : REAL; (* of this call *)", "part := S.Value + Limit;", "OUT := LIMIT(X, part, D.Speed);"]})

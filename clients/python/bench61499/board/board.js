@@ -809,7 +809,7 @@ class NetworkView {
       if (grip && !grip.moved) this.click(event.offsetX, event.offsetY);
       grip = null;
     });
-    canvas.addEventListener("dblclick", () => this.chosen && !this.chosen.inner && go(this.chosen.type, "text"));
+    canvas.addEventListener("dblclick", () => this.chosen && !this.chosen.inner && go(this.chosen.type.toUpperCase(), "text"));
     canvas.addEventListener("wheel", (event) => {
       event.preventDefault();
       this.zoom(Math.exp(-event.deltaY / 500), event.offsetX, event.offsetY);
@@ -885,7 +885,7 @@ class NetworkView {
     else if (event.key === "Escape") this.choose(null, false);
     else if ((event.key === "[" || event.key === "]") && this.chosen) this.trace(this.chosen.path, event.key === "[");
     else if (event.key === "Enter" && this.chosen?.inner) this.openOne(this.chosen.path);
-    else if (event.key === "Enter" && this.chosen) go(this.chosen.type, "text");
+    else if (event.key === "Enter" && this.chosen) go(this.chosen.type.toUpperCase(), "text");
     else if (event.key === "Backspace" && this.chosen) this.closeRound(this.chosen);
     else if (event.key === "i" && this.chosen) this.declared();
     else return;
@@ -919,7 +919,7 @@ class NetworkView {
   search() {
     const wanted = this.field.value.trim().toUpperCase();
     const all = this.way ? [...this.way.blocks.keys()] : this.blocks;
-    const items = wanted ? all.filter((it) => it.path.includes(wanted) || it.type.includes(wanted)) : all;
+    const items = wanted ? all.filter((it) => it.path.toUpperCase().includes(wanted) || it.type.toUpperCase().includes(wanted)) : all;
     this.found = wanted ? new Set(items) : new Set();
     this.list.show(items, this.chosen);
     this.matches.textContent = wanted ? `${items.length.toLocaleString("en")} of ${counted(this.blocks.length, "block")}` : counted(this.blocks.length, "block");
@@ -954,7 +954,7 @@ class NetworkView {
     const links = block.ends.slice(0, 60).map((wire) => this.linkItem(block, wire));
     if (block.ends.length > 60) links.push(make("li", { class: "dim" }, `and ${block.ends.length - 60} more`));
     this.about.replaceChildren(
-      make("h3", { class: "mono" }, block.path), make("p", {}, "Type ", link(block.type, () => go(block.type, "text"))),
+      make("h3", { class: "mono" }, block.path), make("p", {}, "Type ", link(block.type, () => go(block.type.toUpperCase(), "text"))),
       ...(block.home ? [make("p", {}, `On ${block.home}`)] : []), make("p", {}, link("Where it is declared", () => this.declared())),
       make("p", {}, link("What feeds it", () => this.trace(block.path, true)), " · ", link("Where it leads", () => this.trace(block.path, false))),
       make("ul", { "aria-label": "Links" }, ...links));
@@ -966,7 +966,8 @@ class NetworkView {
   async trace(end, back) {
     const found = await ask("/trace", { name: this.unit, end, way: back ? "back" : "forth" });
     if (found.why) { this.untrace(); return note(`It can't be shown: ${found.why}.`); }
-    const boxes = new Map([...this.boxes.map((it) => [it.path, it]), ...this.blocks.filter((it) => it.hidden).map((it) => [it.path, it.hidden])]);
+    const named = [...this.boxes.map((it) => [it.path, it]), ...this.blocks.filter((it) => it.hidden).map((it) => [it.path, it.hidden])];
+    const boxes = new Map(named.map(([path, it]) => [path.toUpperCase(), it]));
     const owner = (place) => [1, 2].map((cut) => boxes.get(place.split(".").slice(0, -cut).join("."))).find(Boolean) ?? boxes.get(place);
     const links = new Set(found.links.flatMap(([sort, one, other]) => [`${sort} ${one} ${other}`, `${sort} #${owner(one)?.at} #${owner(other)?.at}`]));
     const blocks = new Map();
@@ -987,10 +988,10 @@ class NetworkView {
     this.search();
   }
 
-  /** The link that a wire is of, in the words of the server. */
+  /** The link that a wire is of, in the words of the server, which has names in capitals. */
   linkOf({ sort, from, to, label, way }) {
     const [one, other] = (way === "back" ? [to, from] : [from, to]).map(({ box, port }) => box.tag === null ? `${box.path}.${port}${label ? `.${label}` : ""}` : box.path);
-    return `${sort} ${one} ${other}`;
+    return `${sort} ${one.toUpperCase()} ${other.toUpperCase()}`;
   }
 
   linkItem(block, wire) {

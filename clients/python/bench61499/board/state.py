@@ -12,7 +12,7 @@ from typing import Any, NamedTuple
 
 from bench61499 import Blocked, Deploy, Fault, Faulty, Flat, Kind, Net, Plan, Recursive, Stopped, TooLarge
 from bench61499.board.feed import NO_PLAN, Change, Feed, Step, Wrong
-from bench61499.language.tokens import declared_kind
+from bench61499.language.tokens import declaration, declared_kind
 from bench61499.language.wording import counted
 
 WISHES_KEPT = 64
@@ -47,6 +47,12 @@ class Source:
     def kind(self) -> str:
         """The first word of the text."""
         return declared_kind(self.text) or ""
+
+    @cached_property
+    def name(self) -> str:
+        """The name that the text declares, as it is written; empty if it declares none."""
+        its = declaration(self.text)
+        return its.words if its else ""
 
     def words_at(self, fault: Fault) -> str:
         return self.text.encode()[fault.start : fault.end].decode(errors="replace")

@@ -10,6 +10,7 @@ from bench61499 import (
     Blocked, Fault, Faulty, Flat, Link, Misplaced, Places, Plan, Recursive, Stopped, TooLarge,
 )
 from bench61499.board.state import Answer, Board, NoEntry, NotAnswered, Row, Value
+from bench61499.language.as_declared import AsDeclared
 from bench61499.language.declarations import Unit
 from bench61499.language.explain import Explainer, Names
 from bench61499.language.fitting import fits as fits_in
@@ -57,7 +58,7 @@ def _texts(rows: Mapping[str, Row]) -> Texts:
         row = rows.get(name)
         return read(row.source.text) if row and row.source else None
 
-    return Texts(unit, lambda kind: (it.unit for it in rows.values() if it.source and it.source.kind == kind))
+    return Texts(unit, lambda kind: (it.source.name or it.unit for it in rows.values() if it.source and it.source.kind == kind))
 
 
 def _note(board: Board, row: Row, fits: bool) -> str:
@@ -176,7 +177,7 @@ def net_view(board: Board, unit: str, net: Answer, deploy: Answer, aspect: float
     """
     plan = deploy.value if isinstance(deploy.value, (Plan, Faulty)) else None
     if isinstance(net.value, Flat) and deploy.value:
-        picture = Picture(unit, board.texts(), net.value, plan, aspect, opened).view()
+        picture = Picture(unit, board.texts(), net.value, plan, aspect, opened, AsDeclared(_texts(board.rows()), unit)).view()
         return {"unit": unit, "state": "flat", "current": net.current, "serial": max(net.serial, deploy.serial), **picture, "misplaced": _misplaced(plan)}
     return {"unit": unit, "current": net.current, "serial": max(net.serial, deploy.serial), **_no_net(board, net.value)}
 
@@ -206,8 +207,9 @@ def plan_view(board: Board, unit: str, deploy: Answer) -> View:
     view = {"unit": unit, "current": deploy.current, "serial": deploy.serial}
     match deploy.value:
         case Plan(cuts, resources):
-            lists = [{"name": it.name, "commands": list(it.commands)} for it in resources]
-            return {**view, "state": "plan", "cuts": [_link(it) for it in cuts], "resources": lists}
+            names = AsDeclared(_texts(board.rows()), unit)
+            lists = [{"name": names.resource(it.name), "commands": list(names.commands(it.commands))} for it in resources]
+            return {**view, "state": "plan", "cuts": [_link(names.link(it)) for it in cuts], "resources": lists}
         case Faulty():
             return {**view, "state": "faulty", "misplaced": _misplaced(deploy.value)}
         case Stopped(net):

@@ -5,6 +5,7 @@ import argparse
 import os
 import sys
 from collections.abc import Callable, Iterable, Iterator
+from contextlib import suppress
 from pathlib import Path
 
 from bench61499 import TEXT_LIMIT, Places
@@ -13,8 +14,10 @@ from bench61499.cli.version import add_version
 from bench61499.language.grammar import first_stop
 from bench61499.language.layout import applied, formatted
 from bench61499.language.names import shown
+from bench61499.language.spelling import Differing, differing, differing_in
 from bench61499.language.syntax import explained
-from bench61499.language.tokens import tokens
+from bench61499.language.texts import Texts
+from bench61499.language.tokens import declared_name, tokens
 from bench61499.language.units import Misuse, find_files, read_text
 from bench61499.language.writing import write_over
 
@@ -31,9 +34,11 @@ def main() -> int:
         status = 2
         tell(str(error))
 
-    for file in files(options.path, fail):
+    those = list(files(options.path, fail))
+    spellings = spellings_of(those)
+    for file in those:
         try:
-            changes = format_input(options.check) if file == INPUT else format_file(file, options.check)
+            changes = format_input(options.check) if file == INPUT else format_file(file, options.check, spellings.get(file, ("", [])))
         except Misuse as error:
             fail(error)
             continue
@@ -45,8 +50,8 @@ def main() -> int:
 def read_options() -> argparse.Namespace:
     reader = argparse.ArgumentParser(
         prog="format",
-        description="Lays out units: lines indented by nesting, one blank or none between tokens, at most one empty line. Tokens, comments and line breaks "
-        "stay. Prints the names of the files that it changes.",
+        description="Lays out units: lines indented by nesting, one blank or none between tokens, at most one empty line. Each use of a name gets the capitals of "
+        "its declaration, as far as the files have that. All other tokens, comments and line breaks stay. Prints the names of the files that it changes.",
         epilog="The status is 0 if all is laid out; 1 with --check if something is not; 2 if a text is broken, would be longer than 65,536 bytes, or can't be read "
         "or written: it stays unchanged, with a line on standard error.",
     )
@@ -64,12 +69,31 @@ def files(paths: Iterable[Path], failed: Callable[[Misuse], object]) -> Iterator
     yield from (it for it in its if it not in there)
 
 
+Spellings = tuple[str, list[Differing]]
+"""A text, and the uses of names in it that are spelled otherwise than their declarations."""
+
+
+def spellings_of(those: Iterable[Path]) -> dict[Path, Spellings]:
+    """By file the uses that are spelled otherwise than their declarations in one of the files. What can't be read is told later."""
+    texts: dict[str, str] = {}
+    names: dict[Path, str] = {}
+    for file in (it for it in those if it != INPUT):
+        with suppress(Misuse):
+            text = read_text(file)
+            name = declared_name(text)
+            if name and texts.setdefault(name, text) is text:
+                names[file] = name
+    found = differing(texts, Texts.of(texts))
+    return {file: (texts[name], found[name]) for file, name in names.items() if name in found}
+
+
 def format_input(is_check: bool) -> bool:
     """Lays out standard input; a text that can't be laid out goes out as it is. Tells whether that changes something."""
     content = sys.stdin.buffer.read()
     out = content
     try:
-        out = laid_out("standard input", _decoded(content)).encode()
+        text = _decoded(content)
+        out = laid_out("standard input", text, list(differing_in(text, Texts.of({declared_name(text) or "": text})))).encode()
     finally:
         if not is_check:
             sys.stdout.buffer.write(out)
@@ -85,10 +109,10 @@ def _decoded(content: bytes) -> str:
         raise Misuse(f"standard input: is not UTF-8: byte {error.start} is 0x{content[error.start]:02x}") from error
 
 
-def format_file(file: Path, is_check: bool) -> bool:
+def format_file(file: Path, is_check: bool, known: Spellings) -> bool:
     """Lays out a file and prints its name where that changes it."""
     text = read_text(file)
-    new = laid_out(shown(file), text)
+    new = laid_out(shown(file), text, known[1] if known[0] == text else [])
     if new == text:
         return False
     if not is_check:
@@ -97,15 +121,15 @@ def format_file(file: Path, is_check: bool) -> bool:
     return True
 
 
-def laid_out(name: str, text: str) -> str:
-    """The text in its one form. Raises `Misuse` for one that is broken, or would be too long then."""
+def laid_out(name: str, text: str, spellings: list[Differing]) -> str:
+    """The text in its one form, with these uses spelled as their declarations. Raises `Misuse` for one that is broken, or would be too long then."""
     its = list(tokens(text))
     if stop := first_stop(its):
         places = Places(text)
         place = its[stop.at].start if stop.at < len(its) else len(places.encoded)
         line, column = places.line_column(place)
         raise Misuse(f"{name}:{line}:{column}: left as it is: {explained(text, its, stop.at)}")
-    new = applied(text, formatted(text))
+    new = applied(text, sorted([*formatted(text), *((it.start, it.end, it.declared) for it in spellings)]))
     if (size := len(new.encode())) > TEXT_LIMIT:
         raise Misuse(f"{name}: left as it is: laid out it would have {size:,} bytes, and the text of a unit has at most {TEXT_LIMIT:,}")
     return new

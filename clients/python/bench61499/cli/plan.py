@@ -10,9 +10,11 @@ from bench61499 import Blocked, Deploy, Faulty, Key, Plan, Recursive, Stopped, T
 from bench61499.cli.asking import Asked, asking
 from bench61499.cli.command import fail, program, read_with_units, tell
 from bench61499.cli.version import add_version
+from bench61499.language.as_declared import AsDeclared
 from bench61499.language.explain import KIND_NAMES
 from bench61499.language.names import shown
 from bench61499.language.plans import why_misplaced
+from bench61499.language.texts import Texts
 from bench61499.language.tokens import declared_kind
 from bench61499.language.units import Misuse
 
@@ -29,10 +31,11 @@ class NoPlan(Exception):
 def main() -> int:
     options = read_options()
     try:
-        plan = of_resource(options.resource, options.unit, plan_in(options.unit, ask(options)))
+        deploy, names = ask(options)
+        plan = of_resource(options.resource, options.unit, plan_in(options.unit, deploy))
         if not plan.resources and not options.json:
             tell(f"plan: {options.unit} has no resources, and so there is nothing to tell them")
-        for line in [as_json(options.unit, plan)] if options.json else lines(plan):
+        for line in [as_json(options.unit, plan)] if options.json else lines(plan, names):
             print(line if options.json else shown(line))
     except NoPlan as error:
         if options.json:
@@ -48,7 +51,8 @@ def main() -> int:
 def read_options() -> argparse.Namespace:
     reader = argparse.ArgumentParser(
         prog="plan",
-        description="Prints the commands of each resource of a system (CREATE, WRITE and START), and the links that lead from one resource to another.",
+        description="Prints the commands of each resource of a system (CREATE, WRITE and START), and the links that lead from one resource to another, with names as they are "
+        "declared. In JSON names are in capitals, as the workbench tells them.",
         epilog="The status is 0 if it has printed the plan, even an empty one; 1 if there is no plan, with the reason on standard error: the unit is no system, units are "
         "absent or have faults, types contain themselves, there are more than 4,096 instances, blocks have no resource, mappings map nothing; 2 if it could not ask, or with "
         "--connect and --files the plan rests on another text than that of a file.",
@@ -60,10 +64,11 @@ def read_options() -> argparse.Namespace:
     return read_with_units(reader)
 
 
-def ask(options: argparse.Namespace) -> Deploy:
-    """What is known of the system's plan. Raises `NoPlan` where the unit is no system."""
+def ask(options: argparse.Namespace) -> tuple[Deploy, AsDeclared]:
+    """What is known of the system's plan, and its names. Raises `NoPlan` where the unit is no system."""
     with asking(options, options.replace) as asked:
-        return deploy_of(asked, options.unit)
+        deploy = deploy_of(asked, options.unit)
+        return deploy, AsDeclared(Texts.of(asked.texts), options.unit)
 
 
 def deploy_of(asked: Asked, unit: str) -> Deploy:
@@ -128,10 +133,11 @@ def as_json(unit: str, plan: Plan) -> str:
     return json.dumps({"unit": unit, "cuts": [asdict(it) for it in plan.cuts], "resources": resources}, indent=2)
 
 
-def lines(plan: Plan) -> Iterator[str]:
+def lines(plan: Plan, names: AsDeclared) -> Iterator[str]:
+    """The plan with its names as they are declared."""
     if plan.cuts:
         yield "between resources:"
-        yield from (f"  {it.sort} {it.source} -> {it.destination}" for it in plan.cuts)
+        yield from (f"  {it.sort} {it.source} -> {it.destination}" for it in map(names.link, plan.cuts))
     for it in plan.resources:
-        yield f"{it.name}:"
-        yield from (f"  {command}" for command in it.commands)
+        yield f"{names.resource(it.name)}:"
+        yield from (f"  {command}" for command in names.commands(it.commands))

@@ -170,8 +170,8 @@ class Import(Run):
 
 
 def names_without_unit(roots: Iterable[Element]) -> frozenset[str]:
-    """The names of functions, of global constants and of values of enumerations, in upper case."""
-    functions = {root.get("Name") for root in roots if root.name == "FunctionType"}
+    """The names of functions, of global constants and their lists, and of values of enumerations, in upper case."""
+    functions = {root.get("Name") for root in roots if root.name in ("FunctionType", "GlobalConstants")}
     groups = [group for root in roots if root.name in ("GlobalConstants", "DataType") for group in root.children]
     values = {it.get("Name") for group in groups if group.name in ("GlobalConstants", "EnumeratedType") for it in group.children}
     return frozenset(it.upper() for it in functions | values if it)

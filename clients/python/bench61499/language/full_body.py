@@ -71,7 +71,8 @@ class Local:
 
 @dataclass
 class Body:
-    """What was read of an algorithm between two places in bytes. One that could not be read has its tokens alone."""
+    """What was read of an algorithm between two places in bytes. One that could not be read has its tokens alone, and
+    the variables before the place where it could not."""
 
     algorithm: str
     begin: int
@@ -93,7 +94,7 @@ def read_body(algorithm: str, text: bytes, begin: int, end: int, is_full: bool) 
             raise NotRead
         reader.read()
     except NotRead:
-        return Body(algorithm, begin, end, tokens, is_read=False)
+        return Body(algorithm, begin, end, tokens, is_read=False, locals=reader.body.locals)
     return reader.body
 
 
@@ -354,7 +355,7 @@ class _Reader:
     def _operand(self) -> None:
         while self._upper_here() in _SIGNS:
             self._at += 1
-        if self._kind() in _LITERALS or self._upper_here() in ("TRUE", "FALSE"):
+        if self._kind() in _LITERALS or self._upper_here() in ("TRUE", "FALSE", "NULL"):
             self._at += 1
         elif self._upper_here() in _CALLED_OPERATORS and self._upper_here(1) == "(":
             self._at += 1
@@ -372,8 +373,6 @@ class _Reader:
         while self._skip("::"):
             reference.is_qualified = True
             reference.parts.append(Part(self._name()))
-        if reference.is_qualified and self._kind() == "typed":
-            raise NotRead
         while self._further(reference):
             pass
         return reference

@@ -6,7 +6,7 @@ that a unit imports may have a name, nothing is said of it.
 from __future__ import annotations
 
 import re
-from collections.abc import Callable, Iterator
+from collections.abc import Callable, Container, Iterator
 from typing import NamedTuple
 
 from bench61499.language.declarations import (
@@ -48,20 +48,21 @@ class Doubtful(NamedTuple):
     meant: str | None = None
 
 
-def doubtful(text: str, unit: Unit, texts: Texts, is_broken: Callable[[str], bool]) -> list[Doubtful]:
-    """What is wrong in the algorithms of a unit, which is not broken itself. Nothing is told by types that are broken."""
+def doubtful(text: str, unit: Unit, texts: Texts, is_broken: Callable[[str], bool], units: Container[str] = ()) -> list[Doubtful]:
+    """What is wrong in the algorithms of a unit, which is not broken itself. Nothing is told by types that are broken. `units` are the names, in upper case, of
+    those that are there, perhaps without a text."""
     if not any(it.is_read for it in unit.bodies) or is_broken(unit.name):
         return []
     kept = imported(text)
-    found = [it for body, scope in scopes(unit, kept) for it in _Judge(unit, body, scope, kept, texts, is_broken).found()]
+    found = [it for body, scope in scopes(unit, kept) for it in _Judge(unit, body, scope, kept, texts, is_broken, units).found()]
     return sorted(dict.fromkeys(found), key=lambda it: it.start)
 
 
 class _Judge:
     """What is wrong in one algorithm."""
 
-    def __init__(self, unit: Unit, body: Body, scope: Scope, kept: Imported, texts: Texts, is_broken: Callable[[str], bool]):
-        self._unit, self._body, self._scope, self._kept, self._texts, self._is_broken = unit, body, scope, kept, texts, is_broken
+    def __init__(self, unit: Unit, body: Body, scope: Scope, kept: Imported, texts: Texts, is_broken: Callable[[str], bool], units: Container[str]):
+        self._unit, self._body, self._scope, self._kept, self._texts, self._is_broken, self._units = unit, body, scope, kept, texts, is_broken, units
         self._may_have_values = kept.imports_all or self._has_unknown_types()
 
     def found(self) -> Iterator[Doubtful]:
@@ -107,7 +108,7 @@ class _Judge:
 
     def _type(self, it: Local) -> Iterator[Doubtful]:
         name = it.type.upper if it.type else ""
-        if it.type and not is_known_type(name) and not self._texts.unit(name) and not self._is_elsewhere(name):
+        if it.type and not is_known_type(name) and not self._texts.unit(name) and name not in self._units and not self._is_elsewhere(name):
             meant = near_type(self._texts.units("TYPE"))(it.type.words)
             yield Doubtful(NO_SUCH_TYPE, it.type.start, it.type.end, f"no type {it.type.words} here{asked(meant)}", meant)
 
@@ -149,7 +150,8 @@ class _Judge:
         return Names([*own, *(it.name.words for it in self._scope.locals.values())], NEAR)
 
     def _function(self, name: str, token: Token) -> Iterator[Doubtful]:
-        if is_function(name) or self._is_elsewhere(name) or self._texts.unit(name) or self._is_conversion_elsewhere(name):
+        is_algorithm = Key(self._unit.name, ALGORITHM, "", name) in self._unit.first
+        if is_function(name) or is_algorithm or self._is_elsewhere(name) or self._texts.unit(name) or self._is_conversion_elsewhere(name):
             return
         its = self._scope.variable(name)
         if its and not is_known_type(type_of_data(its.type)):

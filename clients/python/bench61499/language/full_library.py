@@ -9,7 +9,7 @@ from bench61499.language.wording import Names
 LATER = frozenset("LTIME LDATE LTOD LTIME_OF_DAY LDT LDATE_AND_TIME CHAR WCHAR".split())
 """Elementary types of IEC 61131-3 from its third edition on."""
 _SHORT = frozenset(["LD", "LT"])
-_FUNCTIONS = tuple(
+FUNCTIONS = tuple(
     """ABS SQRT LN LOG EXP SIN COS TAN ASIN ACOS ATAN ATAN2 ADD MUL SUB DIV MOD EXPT MOVE SHL SHR ROL ROR AND OR XOR NOT SEL MAX MIN LIMIT MUX GT GE EQ LE LT
     NE LEN LEFT RIGHT MID CONCAT INSERT DELETE REPLACE FIND TRUNC ADD_TIME ADD_LTIME ADD_TOD_TIME ADD_LTOD_LTIME ADD_DT_TIME ADD_LDT_LTIME SUB_TIME SUB_LTIME
     SUB_DATE_DATE SUB_LDATE_LDATE SUB_TOD_TIME SUB_LTOD_LTIME SUB_TOD_TOD SUB_LTOD_LTOD SUB_DT_TIME SUB_LDT_LTIME SUB_DT_DT SUB_LDT_LDT MUL_TIME MUL_LTIME
@@ -24,7 +24,7 @@ _CONVERSION = re.compile(
       | (?:(?:{_OF_TYPES})_)?TO_BCD(?:_(?:{_OF_TYPES}))? | L?TIME_IN_(?:S|MS|US|NS)_TO_(?:{_OF_TYPES}) | (?:(?:{_OF_TYPES})_)?TO_L?TIME_IN_(?:S|MS|US|NS)""",
     re.VERBOSE,
 )
-_OF_ONE_TYPE = re.compile(rf"(?:{'|'.join(_FUNCTIONS)})_(?:{_OF_TYPES})")
+_OF_ONE_TYPE = re.compile(rf"(?:{'|'.join(FUNCTIONS)})_(?:{_OF_TYPES})")
 _TIMER, _BISTABLE = "IN PT Q ET", "S S1 SET SET1 R R1 RESET RESET1 Q1 Q"
 _EDGE, _COUNTER = "CLK Q M", "CU CD R RESET LD LOAD PV Q QU QD CV"
 _BLOCKS = {
@@ -34,12 +34,12 @@ _BLOCKS = {
     **dict.fromkeys(("CTU", "CTD", "CTUD"), _COUNTER),
     **{f"{name}_{of}": _COUNTER for name in ("CTU", "CTD", "CTUD") for of in ("INT", "DINT", "LINT", "UDINT", "ULINT")},
 }
-_NEAR = Names([*_FUNCTIONS, *(f"{one}_TO_{other}" for one in _TYPES for other in _TYPES if one != other)], nearness=0.72)
+_NEAR = Names([*FUNCTIONS, *(f"{one}_TO_{other}" for one in _TYPES for other in _TYPES if one != other)], nearness=0.72)
 
 
 def is_function(name: str) -> bool:
     """Whether IEC 61131-3, or 4diac, has a function of a name in upper case. `MAX_REAL` is MAX for one type."""
-    return name in _FUNCTIONS or bool(_CONVERSION.fullmatch(name) or _OF_ONE_TYPE.fullmatch(name))
+    return name in FUNCTIONS or bool(_CONVERSION.fullmatch(name) or _OF_ONE_TYPE.fullmatch(name))
 
 
 def near_function(words: str) -> str | None:

@@ -62,7 +62,7 @@ class Scope:
     def first(self, it: Reference) -> Meaning:
         """What the first name of a reference is."""
         name, part = self.name(it.first.name), it.first
-        if it.is_qualified or name in ("THIS", "SUPER") and len(it.parts) > 1:
+        if it.is_qualified or name in ("THIS", "SUPER"):
             return Meaning.ELSEWHERE
         local, its = self.locals.get(name), self.variable(name)
         declared = local.spelled if local else its.type if its else ""

@@ -8,9 +8,11 @@ from itertools import zip_longest
 from typing import Any
 
 from bench61499 import Deploy, Flat, Plan, Sort
+from bench61499.language.as_declared import AsDeclared
 from bench61499.language.layers import Edge, Gaps, Size, layered
 from bench61499.language.levels import AUTO, Levels
 from bench61499.language.network import Box, End, Network, Port, homes
+from bench61499.language.texts import Texts
 from bench61499.language.wording import counted
 
 HEAD = 42
@@ -68,11 +70,12 @@ class _Part:
 class Picture:
     """The picture of a network, for a window that is `aspect` times as wide as it is tall.
 
-    `deploy` tells the resources and the cut links of a system that has a plan; `opened` which subapplications are open (`Levels`).
+    `deploy` tells the resources and the cut links of a system that has a plan; `opened` which subapplications are open (`Levels`); `names` are what its names
+    are shown as.
     """
 
-    def __init__(self, unit: str, texts: Mapping[str, str], net: Flat, deploy: Deploy | None, aspect: float, opened: str = AUTO):
-        self._aspect = aspect
+    def __init__(self, unit: str, texts: Mapping[str, str], net: Flat, deploy: Deploy | None, aspect: float, opened: str = AUTO, names: AsDeclared | None = None):
+        self._aspect, self._names = aspect, names or AsDeclared(Texts.of(texts), unit)
         self._network = Network(unit, texts, net)
         self._plan = deploy if isinstance(deploy, Plan) else None
         self._homes = homes(deploy)
@@ -103,14 +106,28 @@ class Picture:
         corners, width, height = self._placed([(wire[1], wire[4]) for wire in wires])
         ports = _Numbered()
         boxes = [
-            [it.name, it.type, it.home, it.left, round(x), round(y), *it.size, ports.number([_row(row) for row in it.rows]), it.inner]
+            [*self._shown(it), it.left, round(x), round(y), *it.size, ports.number([self._row(it.type, row) for row in it.rows]), it.inner]
             for it, (x, y) in zip(self._shapes, corners)
         ]
-        folds = [[path, name, *map(round, its)] for path, name, *its in self._folds]
-        hidden = [[it.block.path, it.block.type, self._homes.get(it.block.path, ""), self._index[shown]] for it in self._network.boxes.values()
+        folds = [[self._names.path(path), name, *map(round, its)] for path, name, *its in self._folds]
+        hidden = [[*self._shown_block(it.block.path, it.block.type, self._homes.get(it.block.path, "")), self._index[shown]] for it in self._network.boxes.values()
                   if (shown := self._levels.box_of(it.block.path)) != it.block.path]
-        open_ones = {"levels": len(self._levels.inside), "opened": sorted(self._levels.open), "folds": folds, "hidden": hidden}
+        opened = [self._names.path(it) for it in sorted(self._levels.open)]
+        open_ones = {"levels": len(self._levels.inside), "opened": opened, "folds": folds, "hidden": hidden}
         return {"width": round(width), "height": round(height), "boxes": boxes, "rows": ports.values, "wires": wires, "frames": self._frames, **open_ones}
+
+    def _shown(self, it: _Shape) -> tuple[str, str, str]:
+        """The name, the type and the resource of a shape."""
+        if it.left is not None:
+            return self._names.own_port(it.type, it.name), it.type, it.home
+        return self._shown_block(it.name, it.type, it.home)
+
+    def _shown_block(self, path: str, type_: str, home: str) -> tuple[str, str, str]:
+        return self._names.path(path), self._names.type(type_), self._names.resource(home) if home else ""
+
+    def _row(self, type_: str, row: tuple[Port | None, Port | None]) -> list[Any]:
+        left, right = (self._names.port_of(type_, it.sort, it.name) if it else "" for it in row)
+        return [next((it.sort for it in row if it), ""), left, right]
 
     def _wires(self) -> list[list[Any]]:
         """The wires and the tags' own: sort, box, side and row of the source, the same of the destination, label, whether it is cut, direction, and how many links it
@@ -123,7 +140,8 @@ class Picture:
             ends = [self._end(wire.source, rows, False), self._end(wire.destination, rows, True)]
             if not self._is_closed(wire.source) and not self._is_closed(wire.destination):
                 one, other = reversed(ends) if wire.is_backward else ends
-                wires.append([wire.link.sort, *one, *other, wire.inner, wire.link in cuts, "back" if wire.is_backward else "forth", 1])
+                inner = self._names.link(wire.link).source.rpartition(".")[2] if wire.inner else ""
+                wires.append([wire.link.sort, *one, *other, inner, wire.link in cuts, "back" if wire.is_backward else "forth", 1])
             elif ends[0][0] != ends[1][0]:
                 its = [wire.link.sort, *ends[0], *ends[1], "", wire.link in cuts, "forth"]
                 bundles.setdefault(tuple(its), [*its, 0])[-1] += 1
@@ -131,7 +149,8 @@ class Picture:
             outside = [self._tags[tag.border.sort, tag.border.port], not tag.left, -1]
             inside = self._end(tag.inside, rows, tag.left)
             one, other = (outside, inside) if tag.left else (inside, outside)
-            its = [tag.border.sort, *one, *other, tag.inside.inner, False, "forth" if tag.border.sort != "adapter" and self._network.own else "none"]
+            inner = self._names.place(tag.border.sort, tag.border.place).rpartition(".")[2] if tag.inside.inner else ""
+            its = [tag.border.sort, *one, *other, inner, False, "forth" if tag.border.sort != "adapter" and self._network.own else "none"]
             if self._is_closed(tag.inside):
                 bundles.setdefault(tuple(its), [*its, 0])[-1] += 1
             else:
@@ -162,7 +181,7 @@ class Picture:
         for group, (left, top), size in zip(groups, whole.corners, sizes):
             inner_left, inner_top = (left + PAD, top + 2 * PAD) if group else (left, top)
             if group:
-                self._frames.append([group, round(left), round(top), *(round(it) for it in size)])
+                self._frames.append([self._names.resource(group), round(left), round(top), *(round(it) for it in size)])
             its, folds = layouts[group].moved(inner_left, inner_top)
             self._folds += folds
             for at, corner in its.items():
@@ -193,7 +212,7 @@ class Picture:
     def _fold_name(self, path: str) -> str:
         """The path of an open subapplication from the frame round it on."""
         outer = self._levels.frames_of(path)
-        return path[len(outer[-1]) + 1 :] if outer else path
+        return self._names.path(path)[len(outer[-1]) + 1 if outer else 0 :]
 
     @staticmethod
     def _outer(group: str, width: float, height: float) -> Size:
@@ -226,9 +245,3 @@ def _of(side: list[Port], sort: Sort) -> list[Port]:
 
 def _places_of(rows: Rows) -> dict[Port, int]:
     return {port: at for at, row in enumerate(rows) for port in row if port}
-
-
-def _row(row: tuple[Port | None, Port | None]) -> list[Any]:
-    left, right = row
-    sort = left.sort if left else right.sort if right else ""
-    return [sort, left.name if left else "", right.name if right else ""]

@@ -41,6 +41,11 @@ class Text:
         self.kind = word if word in KINDS else ""
         self.name = self.declared if self.kind and self.declared else NAMELESS
 
+    @property
+    def words(self) -> str:
+        """The name as it is declared."""
+        return self._head.words if self._head and self.kind else self.name
+
     @cached_property
     def uri(self) -> str:
         return self._uri or self.file.as_uri()
@@ -230,8 +235,8 @@ class Plant:
         return self._near[kind][1].near(words)
 
     def kinds(self, kind: str) -> Iterator[str]:
-        """The names of all units of a kind."""
-        return (text.name for text in self._texts.values() if text.kind == kind)
+        """The names of all units of a kind, as they are declared."""
+        return (text.words for text in self._texts.values() if text.kind == kind)
 
     def declarations(self, key: Key) -> Iterator[tuple[Text, Declaration]]:
         """What a name stands for; more than one where a unit is declared by more than one text."""

@@ -9,7 +9,7 @@ from collections.abc import Callable
 
 from bench61499.language.declarations import (
     ADAPTER_SECTIONS, ALGORITHM, APPLICATION, CONNECTION_SECTIONS, DATA_SECTIONS, DATA_TYPE, DESTINATION, DEVICE, ENDS, EVENT, EVENT_SECTIONS,
-    FIELD, INSTANCE, INTERFACE, KINDS, LEVELS, PARAMETERS, PARTS, RESOURCE, SOURCE, STATE, STATEMENTS, TYPE, VARIABLE, Connection, Declaration, Key,
+    FIELD, INSTANCE, INTERFACE, KINDS, LEVELS, LOCALS, PARAMETERS, PARTS, RESOURCE, SOURCE, STATE, STATEMENTS, TYPE, VARIABLE, Connection, Declaration, Key,
     Step, Unit, Use, Walk, Wanted, is_elementary,
 )
 from bench61499.language.full_body import read_body
@@ -19,6 +19,8 @@ from bench61499.language.skipped import FULL
 from bench61499.language.tokens import Token, is_name, spelled, tokens
 
 _BOUNDARIES = frozenset([*ENDS, *ENDS.values()])
+_IN_BODIES = frozenset(["VAR", *DATA_SECTIONS, "END_VAR"])
+"""Boundaries that an algorithm in full Structured Text may have too."""
 _WITH_WORDS = frozenset([TYPE, ALGORITHM, APPLICATION, DEVICE, RESOURCE])
 """What is declared behind a word of its own."""
 _STATEMENT_ENDS = tuple(f"END_{word}" for word in STATEMENTS)
@@ -424,10 +426,23 @@ class Reader:
     def _foreign(self, made: Declaration) -> None:
         """An algorithm that the workbench skips; one without its end may be more than that."""
         begin = self._tokens[self._at - 1].end
+        if made.type.upper() == FULL and _BOUNDARIES.intersection(self._upper[self._at :]) <= _IN_BODIES:
+            self._end_in_body()
+            return
         self._over(ENDS["ALGORITHM"])
         if not self._is_over() and self._upper[self._at] == ENDS["ALGORITHM"]:
             is_full = made.type.upper() == FULL
             self._unit.bodies.append(read_body(made.words, self._encoded, begin, self._tokens[self._at].start, is_full))
+
+    def _end_in_body(self) -> None:
+        """Tells what may follow where a text breaks off in full Structured Text: behind its variables the references are those of ST."""
+        rest, used = self._upper[self._at :], len(self._used)
+        self._at = self._count
+        begin = next((at for at in reversed(range(len(rest))) if rest[at] in _IN_BODIES or rest[at] == LOCALS), -1)
+        if begin < 0 or rest[begin] == "END_VAR":
+            self._at -= len(rest) - begin - 1
+            self._references("")
+            del self._used[used:]
 
     def _service(self) -> None:
         self._over("END_SERVICE")

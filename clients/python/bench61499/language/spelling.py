@@ -40,10 +40,11 @@ def differing(texts: Mapping[str, str], around: Texts) -> dict[str, list[Differi
     for word in set().union(*words.values()):
         spellings[word.upper()].add(word)
     several = {word for upper, its in spellings.items() if len(its) > 1 and upper not in RESERVED and not is_elementary(upper) for word in its}
-    return {unit: found for unit, own in words.items() if own & several and (found := list(_differing(texts[unit], around)))}
+    return {unit: found for unit, own in words.items() if own & several and (found := list(differing_in(texts[unit], around)))}
 
 
-def _differing(text: str, around: Texts) -> Iterator[Differing]:
+def differing_in(text: str, around: Texts) -> Iterator[Differing]:
+    """The uses of one text whose declarations are spelled otherwise."""
     encoded = text.encode()
     for use in read(text).uses:
         used = encoded[use.start : use.end].decode()

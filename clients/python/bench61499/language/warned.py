@@ -20,7 +20,7 @@ def warned(text: str, unit: str, units: Container[str], texts: Texts, is_broken:
         for it in missing_types.missing_types(text, units, lambda words: near_type(texts.units("TYPE"))(words))
     ]
     its = texts.unit(unit) if FULL in text.upper() else None
-    return sorted([*found, *(doubtful(text, its, texts, is_broken) if its else ())], key=lambda it: (it.start, it.code))
+    return sorted([*found, *(doubtful(text, its, texts, is_broken, units) if its else ())], key=lambda it: (it.start, it.code))
 
 
 def whose(code: str) -> str:

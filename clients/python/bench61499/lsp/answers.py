@@ -10,6 +10,7 @@ from bench61499 import TEXT_LIMIT
 from bench61499.language.layout import Edit, applied, formatted
 from bench61499.language.plant import Plant, Text
 from bench61499.language.positions import Position, place
+from bench61499.language.spelling import differing_in
 from bench61499.lsp.choices import TITLES, Choices
 from bench61499.lsp.completion import ItemKind, candidates
 from bench61499.lsp.documents import Diagnostic, path_of
@@ -180,7 +181,7 @@ class Answers:
         return {"range": text.range(found.start, found.end), "placeholder": text.places.words(found.start, found.end)}
 
     def _rename(self, text: Text, params: Any) -> Any:
-        return renamed(self._plant, self._found(text, params), params["newName"])
+        return renamed(self._plant, self._found(text, params), params["newName"], "rename" in self.file_operations)
 
     def _code_actions(self, text: Text, params: Any) -> Any:
         only = params["context"].get("only")
@@ -232,7 +233,7 @@ class Answers:
         return folding_ranges(text)
 
     def _format(self, text: Text, params: Any) -> Any:
-        edits = formatted(text.text)
+        edits = sorted([*formatted(text.text), *((it.start, it.end, it.declared) for it in differing_in(text.text, self._plant.known))])
         if len(applied(text.text, edits).encode()) > TEXT_LIMIT:
             raise CantAnswer(f"laid out, the text would have more than {TEXT_LIMIT:,} bytes")
         start, end = self._span(text, params) if "range" in params else (0, len(text.places.encoded))

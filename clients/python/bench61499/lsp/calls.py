@@ -12,7 +12,7 @@ from bench61499.language.declarations import INTERFACE, Declaration, Use
 from bench61499.language.plant import Plant, Text
 from bench61499.language.positions import place
 from bench61499.lsp.documents import path_of
-from bench61499.lsp.instances import leading_to, paths
+from bench61499.lsp.instances import leading_to, paths, units_in
 from bench61499.lsp.navigation import SYMBOL_KINDS, SymbolKind
 from bench61499.lsp.rpc import REQUEST_FAILED, Message, failure
 from bench61499.tracing import End, Hop, NoSuchEnd, Tracing
@@ -118,7 +118,7 @@ class Calls:
         if text.unit.kind == "SYSTEM":
             return [(text.unit.name, ".".join([site.scope, *site.names]))], site.inner
         leading = leading_to(plant, text.unit.name)
-        roots = [it for it in sorted(plant.kinds("SYSTEM")) if it in leading] or [it for it in sorted(plant.kinds("SUBAPPLICATION")) if it in leading]
+        roots = units_in(leading, plant, "SYSTEM") or units_in(leading, plant, "SUBAPPLICATION")
         found = [(root, ".".join([*path, *site.names])) for root in roots for path in self._paths(root, text.unit.name, leading)]
         return sorted(found)[:_MOST_ENDS], site.inner
 

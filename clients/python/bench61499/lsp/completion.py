@@ -9,6 +9,7 @@ from bench61499.language.declarations import (
     ALGORITHM, APPLICATION, CONNECTION_SECTIONS, DATA_TYPE, DESTINATION, DEVICE, ELEMENTARY, EVENT, FIELD, INSTANCE, INTERFACE, PARAMETERS, RESOURCE,
     SOURCE, STATE, TYPE, TYPE_KINDS, VARIABLE, Declaration, Step, Unit, Use, Wanted, is_elementary, is_free,
 )
+from bench61499.language.full_library import FUNCTIONS
 from bench61499.language.plant import Plant, Text
 from bench61499.language.reader import read
 from bench61499.language.tokens import pieces
@@ -18,6 +19,7 @@ class ItemKind(IntEnum):
     """How editors sort what may be written."""
 
     METHOD = 2
+    FUNCTION = 3
     FIELD = 5
     VARIABLE = 6
     CLASS = 7
@@ -72,7 +74,15 @@ def candidates(plant: Plant, text: Text, place: int) -> list[Candidate]:
     of = plant.declaration(plant.key(other)) if other else None
     names = [it for wanted in before.wanted for it in named(plant, text.unit, wanted, of.type if of else "")]
     words = [Candidate(word, ItemKind.KEYWORD) for word in before.words if word.isidentifier()]
-    return list(dict.fromkeys([*names, *words]))
+    return list(dict.fromkeys([*names, *_of_full(text, before, place), *words]))
+
+
+def _of_full(text: Text, before: Unit, place: int) -> Iterator[Candidate]:
+    """The variables of an algorithm IN ST_FULL around a place, and functions, where a value may stand."""
+    body = next((it for it in text.unit.bodies if it.begin <= place <= it.end), None)
+    if body and any(it.space == VARIABLE and not it.path for it in before.wanted):
+        yield from (Candidate(it.name.words, ItemKind.VARIABLE, f"{it.section} : {it.spelled}") for it in body.locals)
+        yield from (Candidate(name, ItemKind.FUNCTION, "function") for name in FUNCTIONS)
 
 
 def _front(text: Text, place: int) -> str | None:
@@ -107,9 +117,9 @@ def named(plant: Plant, unit: Unit, wanted: Wanted, other: str = "") -> Iterator
     """The names that are wanted at a place of a unit. `other` is the type at the other end of a connection, where it is known."""
     if wanted.space == TYPE:
         kind = TYPE_KINDS[wanted.section]
-        yield from (Candidate(name, _TYPE_ITEMS[kind]) for name in sorted(plant.kinds(kind)) if name != unit.name)
+        yield from (Candidate(name, _TYPE_ITEMS[kind]) for name in sorted(plant.kinds(kind)) if name.upper() != unit.name)
     elif wanted.space == DATA_TYPE:
-        structures = sorted(name for name in plant.kinds("TYPE") if name != unit.name and not is_elementary(name))
+        structures = sorted(name for name in plant.kinds("TYPE") if name.upper() != unit.name and not is_elementary(name.upper()))
         yield from (Candidate(name, ItemKind.STRUCT) for name in (*structures, *ELEMENTARY))
         yield Candidate("ARRAY", ItemKind.KEYWORD)
     else:

@@ -25,6 +25,12 @@ def workspace_edit(changes: dict[str, Edits], created: tuple[Path, str] | None =
     return {"documentChanges": its}
 
 
+def changes_of(edit: dict[str, Any]) -> dict[str, Edits]:
+    """The edits of texts in an edit, by their URIs."""
+    its = (it for it in edit.get("documentChanges", ()) if "edits" in it)
+    return edit["changes"] if "changes" in edit else {it["textDocument"]["uri"]: it["edits"] for it in its}
+
+
 def _of_text(uri: str, edits: Edits) -> dict[str, Any]:
     return {"textDocument": {"uri": uri, "version": None}, "edits": edits}
 

@@ -108,7 +108,7 @@ def _unread(text: Text, place: int) -> Iterator[Fix]:
 
 def _meant(plant: Plant, text: Text) -> Iterator[Fix]:
     """The names that may be meant where this client warns of one."""
-    units = frozenset(name for kind in KINDS for name in plant.kinds(kind))
+    units = frozenset(name.upper() for kind in KINDS for name in plant.kinds(kind))
     for it in warned(text.text, text.name, units, plant.known, lambda _: False):
         if it.meant:
             yield Fix(f"Change {text.places.words(it.start, it.end)} to {it.meant}", text, it.start, it.end, it.meant)
@@ -198,13 +198,13 @@ def _missing_instance(plant: Plant, wrong: Wrong) -> Iterator[Fix]:
     sections = ACROSS[wanted.side][wanted.space]
     here = {it.type.upper() for it in unit.declared}
     found = [
-        (it.name, kinds[it.kind])
+        (it.words, kinds[it.kind])
         for it in {*plant.texts_with(port), *(it for name in here for it in plant.declaring(name))}
         if it.kind in kinds and (its := it.unit.first.get(Key(it.name, wanted.space, "", port))) and its.section in sections
     ]
-    found.sort(key=lambda it: (it[0] not in here, wrong.name.upper() not in it[0], it[0]))
+    found.sort(key=lambda it: (it[0].upper() not in here, wrong.name.upper() not in it[0].upper(), it[0].upper()))
     for of, section in found[:_MOST_TYPES]:
-        if of != unit.name:
+        if of.upper() != unit.name:
             place = added(wrong.text, section, f"{wrong.name} : {of};", wanted.scope)
             yield Fix(f"Declare {wrong.name} : {of} in {section}", wrong.text, *place)
 

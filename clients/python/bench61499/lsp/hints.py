@@ -8,7 +8,7 @@ from bench61499.language.declarations import EVENT, Declaration
 from bench61499.language.plans import resources
 from bench61499.language.plant import Plant, Text
 from bench61499.language.wording import counted
-from bench61499.lsp.instances import homes_below, leading_to, paths
+from bench61499.lsp.instances import homes_below, leading_to, paths, units_in
 
 _TYPE, _OTHER = 1, 0
 _MOST_NAMED = 2
@@ -33,7 +33,7 @@ def _types(plant: Plant, text: Text) -> Iterator[tuple[int, str]]:
 def _homes(plant: Plant, text: Text, its: list[Declaration]) -> dict[int, list[str]]:
     """The resources of instances of a text, in all systems, by where they are declared."""
     leading = leading_to(plant, text.unit.name)
-    systems = [text] if text.unit.kind == "SYSTEM" else [plant.declaring(it)[0] for it in sorted(plant.kinds("SYSTEM")) if it in leading]
+    systems = [text] if text.unit.kind == "SYSTEM" else [plant.declaring(it)[0] for it in units_in(leading, plant, "SYSTEM")]
     found: dict[int, dict[str, None]] = {it.start: {} for it in its}
     for system in systems:
         mapped = resources(system.text)

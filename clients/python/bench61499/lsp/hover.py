@@ -4,7 +4,7 @@ from __future__ import annotations
 from collections.abc import Iterator
 
 from bench61499.language.declarations import (
-    ALGORITHM, FIELD, INSTANCE, INTERFACE, KINDS, LOCAL, LOCALS, STATE, TYPE, VARIABLE, Declaration, Key, Unit, is_elementary,
+    ALGORITHM, APPLICATION, DEVICE, FIELD, INSTANCE, INTERFACE, KINDS, LOCAL, LOCALS, STATE, TYPE, VARIABLE, Declaration, Key, Unit, is_elementary,
     type_of_data,
 )
 from bench61499.language.plant import Plant, Text
@@ -40,7 +40,7 @@ def described(plant: Plant, key: Key) -> str | None:
     comments = Comments(text)
     if key.space == TYPE:
         return "\n".join(_interface(text.unit, it, comments))
-    lines = [_line(it), *comments.of(it)]
+    lines = [_line(text, it), *comments.of(it)]
     if of := type_of(plant, it):
         lines += ["", *_interface(of.unit, of.unit.declared[0], Comments(of))]
     return "\n".join(lines)
@@ -54,9 +54,16 @@ def type_of(plant: Plant, it: Declaration) -> Text | None:
     return of if it.key.space == INSTANCE or is_structure else None
 
 
-def _line(it: Declaration) -> str:
+def _line(text: Text, it: Declaration) -> str:
     """A declaration in one line."""
-    return f"{WHAT[it.section]} of {it.key.owner}: {spelled(it)}"
+    return f"{WHAT[it.section]} of {owner(text, it)}: {spelled(it)}"
+
+
+def owner(text: Text, it: Declaration) -> str:
+    """The application, device, algorithm or unit that has a declared name, as it is declared."""
+    name = it.key.owner
+    its = (each.words for each in text.unit.declared if each.key.name == name and each.key.space in (APPLICATION, DEVICE, ALGORITHM)) if it.key.scope else ()
+    return next(iter(its), text.words)
 
 
 def spelled(it: Declaration) -> str:

@@ -21,6 +21,11 @@ def leading_to(plant: Plant, name: str) -> set[str]:
     return found
 
 
+def units_in(leading: set[str], plant: Plant, kind: str) -> list[str]:
+    """The units of a kind among those that lead to a type."""
+    return sorted(leading.intersection(map(str.upper, plant.kinds(kind))))
+
+
 def instances(unit: Unit) -> Iterator[Declaration]:
     """The blocks and subapplications in a unit, whatever application they are in."""
     return (it for it in unit.declared if it.section in ("FBS", "SUBAPPS"))

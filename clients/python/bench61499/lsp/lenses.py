@@ -30,9 +30,9 @@ def homes_of(plant: Plant, name: str) -> list[str]:
     leading = leading_to(plant, name)
     found: set[str] = set()
     for system in systems:
-        its = plant.declaring(system)[0]
+        its = plant.declaring(system.upper())[0]
         if not leading.isdisjoint(it.type.upper() for it in instances(its.unit)):
-            front = f"{its.unit.name}: " if len(systems) > 1 else ""
+            front = f"{system}: " if len(systems) > 1 else ""
             found |= {f"{front}{home}" for home in _homes(plant, its, name, leading)}
     return sorted(found)
 

@@ -9,7 +9,7 @@ from bench61499.language.plans import resources
 from bench61499.language.plant import Plant, Text
 from bench61499.language.tokens import pieces
 from bench61499.lsp.fixes import Fix, added, at_end
-from bench61499.lsp.instances import homes_below, leading_to, paths
+from bench61499.lsp.instances import homes_below, leading_to, paths, units_in
 
 _MOST_PATHS, _MOST_RESOURCES = 4, 8
 """Instances of a type, and resources of their systems, that are offered."""
@@ -21,7 +21,7 @@ def mappings(plant: Plant, text: Text, start: int, end: int) -> Iterator[Fix]:
     if not its:
         return
     leading = leading_to(plant, text.unit.name)
-    systems = [text] if text.unit.kind == "SYSTEM" else [plant.declaring(it)[0] for it in sorted(plant.kinds("SYSTEM")) if it in leading]
+    systems = [text] if text.unit.kind == "SYSTEM" else [plant.declaring(it)[0] for it in units_in(leading, plant, "SYSTEM")]
     for system in systems:
         mapped = resources(system.text)
         fronts: list[tuple[str, ...]] = [(its.key.owner,)] if system is text else sorted(paths(plant, system, text.unit.name, leading))

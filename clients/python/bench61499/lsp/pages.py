@@ -115,7 +115,7 @@ class Pages:
     def _warnings(self, unit: str, text: str, faults: Faults) -> list[Diagnostic]:
         """What this client warns of in a text whose faults are known."""
         broken = partial(_is_broken, {**self.faults, unit: faults})
-        its = warned(text, unit, self._sources.owners, self._sources.plant.known, broken)
+        its = warned(text, unit, _There(self._sources.owners, self.units), self._sources.plant.known, broken)
         return warnings(text, its) if its else []
 
     def _double(self, text: str) -> Diagnostic:
@@ -123,6 +123,17 @@ class Pages:
         assert name, "only a name that is declared can be another's"
         owner = self._sources.owners[name.upper].name
         return diagnostic(Places(text), name.start, name.end, f"{owner} declares the unit {name.upper} too; a unit has one text")
+
+
+class _There:
+    """The units that have a file here, or are in the workbench."""
+
+    def __init__(self, owners: Mapping[str, Path], units: Mapping[str, Unit]):
+        self._owners, self._units = owners, units
+
+    def __contains__(self, name: object) -> bool:
+        its = self._units.get(name) if isinstance(name, str) else None
+        return name in self._owners or its is not None and its.revision > 0
 
 
 def _is_broken(faults: Mapping[str, Faults | None], unit: str) -> bool:

@@ -8,6 +8,7 @@ from bench61499.language.declarations import INSTANCE, TYPE, VARIABLE, Key, is_e
 from bench61499.language.imported import places_of
 from bench61499.language.plant import Plant
 from bench61499.language.tokens import RESERVED, is_name, tokens
+from bench61499.lsp.edits import workspace_edit
 from bench61499.lsp.navigation import Found, occurrences
 from bench61499.lsp.sureness import captured, in_doubt
 
@@ -34,8 +35,8 @@ def check_target(plant: Plant, found: Found | None) -> Found:
     return found
 
 
-def renamed(plant: Plant, found: Found | None, name: str) -> dict[str, Any]:
-    """The workspace edit that renames. Raises `CantRename`."""
+def renamed(plant: Plant, found: Found | None, name: str, with_file: bool = False) -> dict[str, Any]:
+    """The workspace edit that renames; perhaps `with_file`, the one that was named after the unit. Raises `CantRename`."""
     key = check_target(plant, found).key
     _check_name(name)
     if name.upper() != key.name:
@@ -46,7 +47,16 @@ def renamed(plant: Plant, found: Found | None, name: str) -> dict[str, Any]:
     for text in plant.declaring(key.unit) if key.space == VARIABLE else ():
         changes[text.uri] += ({"range": text.range(*it), "newText": name} for it in places_of(text.places.encoded, key.name))
     _check_size(plant, key, name, changes)
-    return {"changes": changes}
+    return workspace_edit(changes, renamed=_file(plant, key, name) if with_file and key.space == TYPE else None)
+
+
+def _file(plant: Plant, key: Key, name: str) -> tuple[str, str] | None:
+    """The file that is named after a unit, and its new name, both as URIs; None where it has another name, or the new one is taken."""
+    text = plant.declaring(key.unit)[0]
+    new = text.file.with_stem(name)
+    is_named = text.file.stem.upper() == key.name and text.file.stem != name
+    is_free = not new.exists() or new.samefile(text.file)
+    return (text.uri, new.as_uri()) if is_named and is_free else None
 
 
 def _check_size(plant: Plant, key: Key, name: str, changes: dict[str, list[dict[str, Any]]]) -> None:

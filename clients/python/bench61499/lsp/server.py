@@ -11,7 +11,7 @@ from bench61499.lsp import calls
 from bench61499.lsp.answers import CAPABILITIES, Answers, CantAnswer
 from bench61499.lsp.checking import Checking
 from bench61499.lsp.documents import path_of
-from bench61499.lsp.edits import file_operations
+from bench61499.lsp.edits import changes_of, file_operations
 from bench61499.lsp.progress import Reading
 from bench61499.lsp.rename import CantRename
 from bench61499.lsp.rpc import (
@@ -109,7 +109,7 @@ class Server:
                 return None
             result = self._answers.answer(method, params)
             if method == "textDocument/rename" and result:
-                self._expect(result["changes"])
+                self._expect(changes_of(result))
             return {"result": result}
         except (CantRename, CantAnswer) as error:
             return failure(REQUEST_FAILED, str(error))

@@ -29,8 +29,11 @@ def _as_other(plant: Plant, key: Key) -> str | None:
     """Where a port of a block is used as if the block were a structure."""
     its = plant.unit(key.unit)
     other = key._replace(space=FIELD)
-    uses = plant.uses(other) if its and its.kind == "FUNCTION_BLOCK" and key.space == VARIABLE else ()
-    return next((f"{place(text, found[0].start)}: {text.places.words(found[0].start, found[0].end)} behind a variable of this type" for text, found in uses), None)
+    for text, uses in plant.uses(other) if its and its.kind == "FUNCTION_BLOCK" and key.space == VARIABLE else ():
+        for use in uses:
+            if any(body.begin <= use.start < body.end for body in text.unit.bodies):
+                return f"{place(text, use.start)}: {text.places.words(use.start, use.end)} behind a variable of this type"
+    return None
 
 
 def captured(plant: Plant, key: Key, name: str) -> str | None:
@@ -48,9 +51,8 @@ def captured(plant: Plant, key: Key, name: str) -> str | None:
 
 
 def _own_place(text: Text, body: Body, key: Key) -> int:
-    """The first place in an algorithm where it has a name; 0 where it has it nowhere."""
-    uses = (it.start for it in (*text.unit.by_key.get(key, ()), *text.unit.declared) if body.begin <= it.start < body.end and it.key == key)
-    return next(uses, 0)
+    """The first place in an algorithm that uses a name, else that declares it; 0 if there is none."""
+    return next((it.start for it in (*text.unit.uses, *text.unit.declared) if it.key == key and body.begin <= it.start < body.end), 0)
 
 
 def _first_of(body: Body, name: str) -> Token | None:
