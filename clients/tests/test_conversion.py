@@ -57,9 +57,9 @@ class ConversionTest(LspTest):
         before = (self.folder / "Line.fb").read_text().split("\n")
         for it in action["edit"].get("documentChanges") or [{"textDocument": {"uri": uri}, "edits": edits} for uri, edits in action["edit"]["changes"].items()]:
             if it.get("kind") == "create":
-                Path(it["uri"].removeprefix("file://")).touch()
+                (self.folder / Path(it["uri"]).name).touch()
             else:
-                file = Path(it["textDocument"]["uri"].removeprefix("file://"))
+                file = self.folder / Path(it["textDocument"]["uri"]).name
                 file.write_text(edited(file.read_text(), it["edits"]))
         return [line.strip() for line in (self.folder / "Line.fb").read_text().split("\n") if line not in before]
 

@@ -183,7 +183,7 @@ class EditorTest(LspTest):
         self.start({"workspace": {"workspaceEdit": {"documentChanges": True, "resourceOperations": ["create", "rename", "delete"]}}})
         new = self.folder / "Motor.fb"
         for it in self.ask("rename", "Part", "Pump(", newName="Motor")["documentChanges"][:-1]:
-            file = Path(it["textDocument"]["uri"].removeprefix("file://"))
+            file = self.folder / Path(it["textDocument"]["uri"]).name
             self.server.change(file, edited(file.read_text(), it["edits"]))
         (self.folder / "Pump.fb").rename(new)
         self.server.shut(self.folder / "Pump.fb")

@@ -199,6 +199,19 @@ class CheckTest(InFolder):
         self.assertEqual([it.partition(" ")[0] for it in self.check("--format", "github").splitlines()], ["::warning", "::warning", "::notice"])
 
 
+    def test_what_a_skipped_algorithm_names_is_in_the_way_of_no_network(self) -> None:
+        """A broken structure that two blocks have, of which one has it in such an algorithm alone."""
+        for name, text in {
+            "BAD": "TYPE BAD : STRUCT\n  X : INT := TRUE;\nEND_STRUCT; END_TYPE\n",
+            "ONE": "FUNCTION_BLOCK ONE\n  ALGORITHM A IN ST_FULL\n    VAR_TEMP b : BAD; END_VAR\n    b.X := 1;\n  END_ALGORITHM\nEND_FUNCTION_BLOCK\n",
+            "TWO": "FUNCTION_BLOCK TWO\n  VAR B : BAD; END_VAR\nEND_FUNCTION_BLOCK\n",
+            "BOTH": "SUBAPPLICATION BOTH\n  FBS FIRST : ONE; SECOND : TWO; END_FBS\nEND_SUBAPPLICATION\n",
+        }.items():
+            self.write(f"{name}.fb", text)
+        reasons = json.loads(self.check("--plans", "--json", status=1))["reasons"]
+        self.assertEqual([(it["code"], it["unit"], it["line"], it["column"]) for it in reasons], [("BLOCKED", "BOTH", 2, 20)])
+
+
 class ProjectTest(ExchangeTest):
     def test_the_pump_station_has_none(self) -> None:
         """Each of its algorithms is read."""

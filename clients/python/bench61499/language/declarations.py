@@ -226,6 +226,10 @@ class Unit:
         """The names that are used deep in a path, where only other units tell whose they are."""
         return frozenset(use.key.name for use in self.uses if use.walk)
 
+    def is_skipped(self, place: int) -> bool:
+        """Whether a place, in bytes, is in an algorithm that the workbench skips."""
+        return any(it.begin <= place < it.end for it in self.bodies)
+
     def prepare(self) -> None:
         """Has the tables made now, and not when somebody asks."""
         self.first, self.walking

@@ -6,7 +6,7 @@ from collections.abc import Iterator, Sequence
 from dataclasses import dataclass
 
 from bench61499 import Blocked, Deploy, Faulty, Flat, Misplaced, Net, Plan, Recursive, Stopped, There, TooLarge
-from bench61499.language.declarations import INSTANCE, TYPE, Declaration, Key, Unit, type_of_data
+from bench61499.language.declarations import INSTANCE, LOCAL, TYPE, Declaration, Key, Unit, type_of_data
 from bench61499.language.surroundings import Surroundings
 from bench61499.language.texts import Texts
 from bench61499.language.wording import listed
@@ -115,9 +115,9 @@ class Reasons:
         return next(direct, None) or next((it for it in its if not self._reached(type_of_data(it.type)).isdisjoint(goals)), None)
 
     def _typed(self, unit: str) -> list[Declaration]:
-        """The instances and variables of a unit."""
+        """The instances and variables of a unit, not those of algorithms that the workbench skips."""
         known = self._texts.unit(unit)
-        return [it for it in known.declared[1:] if it.type] if known else []
+        return [it for it in known.declared[1:] if it.type and it.key.space != LOCAL] if known else []
 
     def _reached(self, unit: str) -> frozenset[str]:
         """What a unit rests on, and itself."""
@@ -143,7 +143,7 @@ def why_misplaced(it: Misplaced) -> str:
 
 def _types(unit: Unit | None) -> set[str]:
     """The units that a unit mentions."""
-    return {use.key.name for use in unit.uses if use.key.space == TYPE} if unit else set()
+    return {use.key.name for use in unit.uses if use.key.space == TYPE and not unit.is_skipped(use.start)} if unit else set()
 
 
 def _contain(units: Sequence[str]) -> str:

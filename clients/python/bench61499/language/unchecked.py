@@ -82,8 +82,8 @@ class Judge:
     def faults(self) -> Iterator[Fault]:
         yield from (Fault("DUPLICATE", it.start, it.end) for it in self._unit.declared if self._unit.first[it.key] is not it and it.key.space != LOCAL)
         for it in self._unit.uses:
-            if any(body.begin <= it.start < body.end for body in self._unit.bodies):
-                continue  # The workbench skips these.
+            if self._unit.is_skipped(it.start):
+                continue
             at = self._at.token_at(it.start)
             if code := self._code(it, at, self._at.section(at)):
                 yield Fault(code, it.start, self._end(it, at, code))

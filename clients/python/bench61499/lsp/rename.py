@@ -55,7 +55,7 @@ def _file(plant: Plant, key: Key, name: str) -> tuple[str, str] | None:
     text = plant.declaring(key.unit)[0]
     new = text.file.with_stem(name)
     is_named = text.file.stem.upper() == key.name and text.file.stem != name
-    is_free = not new.exists() or new.samefile(text.file)
+    is_free = not plant.text(new) and (not new.exists() or new.samefile(text.file))
     return (text.uri, new.as_uri()) if is_named and is_free else None
 
 

@@ -31,7 +31,7 @@ def _as_other(plant: Plant, key: Key) -> str | None:
     other = key._replace(space=FIELD)
     for text, uses in plant.uses(other) if its and its.kind == "FUNCTION_BLOCK" and key.space == VARIABLE else ():
         for use in uses:
-            if any(body.begin <= use.start < body.end for body in text.unit.bodies):
+            if text.unit.is_skipped(use.start):
                 return f"{place(text, use.start)}: {text.places.words(use.start, use.end)} behind a variable of this type"
     return None
 
