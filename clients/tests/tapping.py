@@ -1,4 +1,4 @@
-"""What lies between clients and a host: it passes all on, counts what the host records for them, and can be cut, as a network that fails."""
+"""What is between clients and a host: it passes all on, counts what the host records for them, and can be cut, as a network that fails."""
 from __future__ import annotations
 
 import asyncio

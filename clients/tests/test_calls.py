@@ -1,4 +1,4 @@
-"""lsp: what feeds an end and where it leads, as the hierarchy of calls."""
+"""lsp: what feeds an end and what it feeds, as the hierarchy of calls."""
 from __future__ import annotations
 
 import unittest

@@ -224,7 +224,7 @@ class SnapshotTest(unittest.TestCase):
             self.assertEqual(Disturbed.changes, [])
 
     def test_much_that_has_happened_is_read_at_once(self):
-        """However many replies tell of it, the values are read twice at most."""
+        """However many replies report it, the values are read twice at most."""
         rounds = []
 
         class Counted(Session):

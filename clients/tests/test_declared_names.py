@@ -1,4 +1,4 @@
-"""Names are shown as they are declared, though the language does not tell capitals apart; what a user writes otherwise is spelled so again."""
+"""Names are shown as they are declared, though capitals make no difference in the language; what a user writes otherwise is spelled so again."""
 from __future__ import annotations
 
 import unittest

@@ -1,4 +1,4 @@
-"""Peers that are not what they seem: servers that answer for ever, or stand where a host was, and editors that send what is no message."""
+"""Peers that are not what they seem: servers that answer forever, or are where a host was, and editors that send what is no message."""
 from __future__ import annotations
 
 import json
@@ -25,7 +25,7 @@ WAIT = 20
 
 @contextmanager
 def sending(pieces: Callable[[], Iterator[bytes]], each: float = 0) -> Iterator[int]:
-    """A server that greets, and then sends these pieces for as long as its peer stays, one after so many seconds; gives its port."""
+    """A server that greets, and then sends these pieces for as long as its peer stays, with this pause in seconds before each; gives its port."""
     is_over = threading.Event()
 
     def serve(listener: socket.socket) -> None:
@@ -70,7 +70,7 @@ class ServerTest(unittest.TestCase):
             self.assertRaises(BadReply, session.units)
 
     def test_who_is_refused_again_and_again_gives_up(self) -> None:
-        """Two that put one folder over another each, or a server that goes on to refuse."""
+        """Two that put one folder over another each, or a server that always refuses."""
         numbers = count(1)
 
         class Refusing(Session):

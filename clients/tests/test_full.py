@@ -91,7 +91,7 @@ def body_of(words: str) -> Body:
 
 
 def told(words: str, **more: str) -> list[str]:
-    """What is told of an algorithm of the block; `more` are texts of other units."""
+    """What is found in an algorithm of the block; `more` are texts of other units."""
     text = BLOCK % words
     texts = Texts.of({**TEXTS, "B": text, **more})
     unit = texts.unit("B")

@@ -141,7 +141,7 @@ class ReadingTest(LspTest):
     """What an editor shows while a large folder is read."""
 
     def read(self, units: int, capabilities: dict, answer: dict) -> list[dict]:
-        """What is told of the reading of so many units."""
+        """What is reported of the reading of this number of units."""
         for number in range(units):
             self.write(f"U{number}.fb", f"FUNCTION_BLOCK U{number} EVENT_INPUT E; END_EVENT END_FUNCTION_BLOCK\n")
         editor = self.editor()

@@ -38,7 +38,7 @@ class HostileTest(InFolder):
         return run("check", *words, "--program", workbench(), folder=self.folder)
 
     def lsp(self) -> tuple[list[str], list[str]]:
-        """The units that a language server has of the folder, and what it tells its user."""
+        """The units that a language server has of the folder, and the messages that its user gets."""
         warned: list[str] = []
         sources = Sources(warned.append)
         sources.folders = [self.plant]
@@ -133,7 +133,7 @@ class LinksTest(HostileTest):
     def test_a_board_shows_the_others(self) -> None:
         (self.plant / "L.fb").symlink_to(self.secret)
         folder = Folder([self.plant])
-        for text in (LOOSE.format("FEEDER"), LOOSE.format("FEEDER") * 2):  # It is told as long as it is there.
+        for text in (LOOSE.format("FEEDER"), LOOSE.format("FEEDER") * 2):  # It is reported as long as it is there.
             self.write("plant/FEEDER.fb", text)
             self.assertTrue(folder.look())
             self.assertEqual((len(folder.units), folder.problems), (7, (self.told("L.fb").replace("plant/", f"{self.plant}/", 1),)))

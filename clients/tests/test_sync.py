@@ -651,7 +651,7 @@ class LostTest(KeeperTest):
                 self.restart()
 
     def overtaken(self, text: str) -> Callable[..., list[str]]:
-        """Sends a commit after somebody else has put a text of A where there was none."""
+        """Sends a commit after somebody else has put the first text of A."""
         send = Outgoing.send
 
         def late(outgoing: Outgoing, *words: Any) -> list[str]:

@@ -1,5 +1,5 @@
 """A day of a team of three: Ann and Ben have folders that `sync` keeps, Cid an editor; a board and a log look on. They join with nothing, edit the same unit, lose the
-network and the host, come back, merge and leave. Nobody's text is lost, and what anybody is told has a reason."""
+network and the host, come back, merge and leave. Nobody's text is lost, and each message has a reason."""
 from __future__ import annotations
 
 import signal
@@ -153,7 +153,7 @@ class DayTest(InFolder):
         self.assertEqual([*self.ann.conflicts(), *self.ben.conflicts()], [])
 
     def lose_the_network(self) -> None:
-        """All go on to work, and are told once. What they have done comes together afterwards."""
+        """All continue to work, and get one message. What they have done comes together afterwards."""
         self.tap.cut()
         text = self.text(self.ann, "STATION")
         self.save(self.ann, "STATION", f"// Ann, alone\n{text}")

@@ -50,7 +50,7 @@ def conveyor() -> dict[str, str]:
 
 
 def tracing_of(unit: str, texts: Mapping[str, str], known: Mapping[str, str] | None = None) -> Tracing:
-    """The network of a unit as the workbench has it. The texts that are `known` are all, unless told otherwise."""
+    """The network of a unit as the workbench has it. By default all texts are `known`."""
     with Session.script(workbench()) as session:
         for batch in batches(Put(name, 0, text) for name, text in texts.items()):
             session.commit(batch)
@@ -217,7 +217,7 @@ LINE.SECOND.BELT.LOAD of FEEDER on SOUTH.MOTION is fed by
         self.assertEqual(ran.stdout.splitlines()[:3], ["LINE.PANEL.VALUE of LAMP is fed by", "  1 LINE.SECOND.LIFT : LIFTER", "      data LINE.SECOND.LIFT.TOTAL -> LINE.PANEL.VALUE"])
 
     def test_of_servers(self) -> None:
-        """A host gives its texts; of a `serve` ends are known by links alone, unless files tell the ports."""
+        """A host gives its texts; of a `serve` ends are known by links alone, unless files have the ports."""
         for server, words in ((hosting(), "LAMP has no port TEX; did you mean LINE.PANEL.TEXT?"), (serving(3), "no connection has LINE.PANEL.TEX as an end, and the text of LAMP is not known")):
             with server as port:
                 before = run("trace", "PLANT", "LINE.PANEL.VALUE", "--files", ".", "--connect", f":{port}", "--replace", folder=self.folder).stdout
