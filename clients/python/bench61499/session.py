@@ -26,10 +26,10 @@ HISTORY_LIMIT = 10_000_000
 """Recorded calls that a workbench can be started for, or that a checkpoint makes room for."""
 
 REPLY_LIMIT = 268_435_456
-"""Bytes of one reply line: more than any plant of sense has, and what a server that is none can have a client keep."""
+"""Bytes of one reply line: more than any plant of sense has, and the most that a false server can have a client keep."""
 
 PATIENCE = 60.0
-"""Seconds that whoever waits for values waits without a further one, if nothing else is said."""
+"""Seconds that whoever waits for values waits without a further one, by default."""
 LONGEST_WATCH = 30.0
 """Seconds that a watch waits, at most."""
 
@@ -1054,7 +1054,7 @@ class Session:
 
 
 class Waits:
-    """Waits for values as long as further ones come, and so many seconds more."""
+    """Waits for values as long as further ones come, and then for these seconds."""
 
     def __init__(self, patience: float):
         self._patience = patience

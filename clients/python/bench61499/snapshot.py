@@ -54,7 +54,7 @@ class Snapshot:
         self._at, self.texts = listed.at, self._session.texts(it.unit for it in listed.units)
 
     def _news(self, wait: float) -> Watched:
-        """All that has happened since the last news, however many replies tell it; waits so long for it if nothing has."""
+        """All that has happened since the last news, however many replies report it; waits so long for it if nothing has."""
         events: list[Event] = []
         at, news = self._at, self._session.watch(self._at, wait)
         while news.at > at and not news.missed:

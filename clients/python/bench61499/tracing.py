@@ -107,7 +107,7 @@ class Tracing:
         raise NoSuchEnd(self._why_none(path))
 
     def block_of(self, place: str) -> str:
-        """The path of the block whose port a place is; empty if it is none's."""
+        """The path of the block whose port a place is; empty if no block has it."""
         return next((front for cut in (1, 2) if (front := ".".join(place.split(".")[:-cut])) in self._types), "")
 
     def _port(self, path: str, block: str) -> End:
@@ -180,7 +180,7 @@ class Tracing:
     # Ways
 
     def back(self, end: End, most: int = 0) -> Way:
-        """What feeds an end, and what feeds that, over all steps, or over so many at most."""
+        """What feeds an end, and what feeds that, over all steps, or over `most` of them."""
         return self._way(end.into, self._to, lambda it: it.source, self._inputs, most)
 
     def forth(self, end: End, most: int = 0) -> Way:
@@ -274,7 +274,7 @@ class Tracing:
         return found
 
     def _sides(self, unit: str, name: str) -> list[tuple[Sort, bool]] | None:
-        """Of each port of a type with a name its sort, and whether it is an input; None if there is none. A port of a plug is an input where it is one of the adapter."""
+        """Of each port of a type with a name its sort, and whether it is an input; None if there is none. A port of a plug is an input if it is one of the adapter."""
         own, _, inner = name.partition(".")
         known = self._read(unit)
         if not inner:

@@ -11,7 +11,7 @@ from bench61499.tracing import NoSuchEnd, Tracing
 
 
 def trace_view(board: Board, unit: str, net: Answer, deploy: Answer, end: str, is_back: bool) -> dict[str, Any]:
-    """What feeds an end in the network of a unit, or what it feeds: the blocks, nearest first and each once, and the links, in capitals. `why` tells why there is no way to show."""
+    """What feeds an end in the network of a unit, or what it feeds: the blocks, nearest first and each once, and the links, in capitals. `why` is the reason if there is no way to show."""
     if not isinstance(net.value, Flat):
         return {"why": f"there is no network of {unit} now"}
     plan = deploy.value if isinstance(deploy.value, Plan) else None

@@ -171,7 +171,7 @@ def _class(token: Token) -> str:
 
 
 def net_view(board: Board, unit: str, net: Answer, deploy: Answer, aspect: float, opened: str = AUTO) -> View:
-    """The network of a unit as a picture, for a window so many times as wide as it is tall and with these subapplications open, or why there is none.
+    """The network of a unit as a picture, for a window with this ratio of width to height and with these subapplications open, or why there is none.
 
     It is not shown before it is known by which resources it is to be drawn.
     """

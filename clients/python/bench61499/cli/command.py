@@ -211,7 +211,7 @@ def fail(program: str, error: Exception) -> int:
 
 
 def tell(*lines: str) -> None:
-    """Tells the user something on standard error. Names of files, and what a server sends, may be in it, and make no further lines."""
+    """Prints a message for the user on standard error. Names of files, and what a server sends, may be in it, and make no further lines."""
     print("\n".join(map(shown, lines)), file=sys.stderr, flush=True)
 
 

@@ -91,7 +91,7 @@ class Found:
 
     @property
     def is_faulty(self) -> bool:
-        """Whether there is anything that the status tells; notes are nothing of that kind, and warnings only if they count."""
+        """Whether there is anything that the status shows; notes are nothing of that kind, and warnings only if they count."""
         return bool(self.faults or self.reasons or self.is_strict and self.warnings)
 
     def all(self) -> list[Finding]:

@@ -62,7 +62,7 @@ def read_options() -> argparse.Namespace:
 
 
 def files(paths: Iterable[Path], failed: Callable[[Misuse], object]) -> Iterator[Path]:
-    """The files of the paths. What can't be looked at is no hindrance to the others: `failed` is told of it, or it is told when it is read."""
+    """The files of the paths. What can't be looked at is no hindrance to the others: `failed` gets it, or it is reported when it is read."""
     its = list(dict.fromkeys(paths))
     there = [it for it in its if it != INPUT and (os.path.isfile(it) or os.path.isdir(it))]
     yield from find_files(there, failed)
@@ -74,7 +74,7 @@ Spellings = tuple[str, list[Differing]]
 
 
 def spellings_of(those: Iterable[Path]) -> dict[Path, Spellings]:
-    """By file the uses that are spelled otherwise than their declarations in one of the files. What can't be read is told later."""
+    """By file the uses that are spelled otherwise than their declarations in one of the files. What can't be read is reported later."""
     texts: dict[str, str] = {}
     names: dict[Path, str] = {}
     for file in (it for it in those if it != INPUT):

@@ -85,7 +85,7 @@ class Log:
             return  # It was removed since.
 
     def follow(self, session: Session, since: Since | None = None) -> None:
-        """Tells what has happened `since`, and goes on as long as the connection lasts."""
+        """Prints what has happened `since`, and continues as long as the connection lasts."""
         try:
             if since:
                 self._tell(session, since, is_new=False)

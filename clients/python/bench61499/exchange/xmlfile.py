@@ -16,7 +16,7 @@ from bench61499.language.units import is_of_folders
 SIZE_LIMIT = 16 * 1024 * 1024
 ELEMENT_LIMIT = 500_000
 TOGETHER_LIMIT = 2_000_000
-"""Elements of all files of a run, which are held at once: some 400 bytes each."""
+"""Elements of all files of a run, which are held at once: about 400 bytes each."""
 DEPTH_LIMIT = 200
 ENDINGS = frozenset([".fbt", ".adp", ".sub", ".sys", ".dtp", ".dev", ".res", ".seg", ".fct", ".gcf", ".atp"])
 

@@ -1,4 +1,4 @@
-"""The names of networks and plans, which the workbench tells in capitals, as the texts declare them."""
+"""The names of networks and plans, which the workbench gives in capitals, as the texts declare them."""
 from __future__ import annotations
 
 from collections.abc import Iterable, Iterator
@@ -69,7 +69,7 @@ class AsDeclared:
         return replace(it, source=self.place(it.sort, it.source), destination=self.place(it.sort, it.destination))
 
     def commands(self, its: Iterable[str]) -> Iterator[str]:
-        """The commands of a resource. They do not tell events from data: of two that are the same the first is of events."""
+        """The commands of a resource. They have events and data in one form: of two that are the same the first is of events."""
         seen: set[str] = set()
         for it in its:
             yield self._command(it, (VARIABLE, EVENT) if it in seen else (EVENT, VARIABLE))

@@ -17,7 +17,7 @@ class Read(NamedTuple):
 
 
 def read_at_most(file: Path, most: int) -> Read:
-    """The content of a file if it has at most so many bytes; of a larger one these and one more. Raises `OSError`, also for a pipe or a device, for which nothing waits."""
+    """The content of a file if it has at most this number of bytes; of a larger one these and one more. Raises `OSError`, also for a pipe or a device, for which nothing waits."""
     with open(os.open(file, os.O_RDONLY | os.O_NONBLOCK | os.O_CLOEXEC), "rb") as stream:
         state = os.fstat(stream.fileno())
         if stat.S_ISDIR(state.st_mode):

@@ -162,7 +162,7 @@ class Connection(NamedTuple):
 
 
 class Doubt(NamedTuple):
-    """A name in an algorithm that the workbench skips, in upper case, of which its text does not tell whose it is: a member behind a point or of a
+    """A name in an algorithm that the workbench skips, in upper case, whose owner is not known from its text: a member after a point or of a
     structure, or another one."""
 
     name: str

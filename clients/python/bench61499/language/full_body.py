@@ -82,7 +82,7 @@ class Body:
     locals: list[Local] = field(default_factory=list)
     references: list[Reference] = field(default_factory=list)
     fields: list[Token] = field(default_factory=list)
-    """Names of fields in the values of structures: whose they are, only other texts tell."""
+    """Names of fields in the values of structures: whose they are, only other texts show."""
 
 
 def read_body(algorithm: str, text: bytes, begin: int, end: int, is_full: bool) -> Body:
@@ -192,7 +192,7 @@ class _Reader:
         return words
 
     def _type(self) -> Token | None:
-        """The name of a type, of an array that of its elements; None of what is none that is known by its name."""
+        """The name of a type, of an array that of its elements; None for any other type without a name."""
         if self._skip("ARRAY"):
             self._expect("[")
             self._until("]")
@@ -367,7 +367,7 @@ class _Reader:
             self._reference()
 
     def _reference(self) -> Reference:
-        """A reference and what is in its subscripts and calls, which stands behind it in the list."""
+        """A reference and what is in its subscripts and calls, which is after it in the list."""
         reference = Reference([Part(self._name())])
         self.body.references.append(reference)
         while self._skip("::"):
@@ -378,7 +378,7 @@ class _Reader:
         return reference
 
     def _further(self, reference: Reference) -> bool:
-        """What leads a reference on; False where nothing does."""
+        """What continues a reference; False if it ends."""
         part = reference.parts[-1]
         if self._skip("["):
             self._listed(self._expression)

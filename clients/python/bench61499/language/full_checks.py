@@ -1,7 +1,7 @@
 """What clients find in algorithms `IN ST_FULL`, which the workbench skips: names that are nowhere, and assignments to what is no variable.
 
 They are warnings of the clients. Whatever a right program may have is passed over: where the types of others, other files of a project or the packages
-that a unit imports may have a name, nothing is said of it.
+that a unit imports may have a name, it gets no warning.
 """
 from __future__ import annotations
 
@@ -39,7 +39,7 @@ _WHAT = {
 
 
 class Doubtful(NamedTuple):
-    """A name that is wrong as far as this client knows, what is told of it, and the name that may be meant."""
+    """A name that is wrong as far as this client knows, the words about it, and the name that may be meant."""
 
     code: str
     start: int
@@ -49,7 +49,7 @@ class Doubtful(NamedTuple):
 
 
 def doubtful(text: str, unit: Unit, texts: Texts, is_broken: Callable[[str], bool], units: Container[str] = ()) -> list[Doubtful]:
-    """What is wrong in the algorithms of a unit, which is not broken itself. Nothing is told by types that are broken. `units` are the names, in upper case, of
+    """What is wrong in the algorithms of a unit, which is not broken itself. Types that are broken are not used. `units` are the names, in upper case, of
     those that are there, perhaps without a text."""
     if not any(it.is_read for it in unit.bodies) or is_broken(unit.name):
         return []
@@ -131,7 +131,7 @@ class _Judge:
         return Doubtful(NOT_ASSIGNABLE, token.start, token.end, f"{token.words} is {what}: nothing can be assigned to it")
 
     def _unknown(self, it: Reference, name: str) -> Iterator[Doubtful]:
-        """A name that is no variable. One that stands alone may be a value of an enumeration that no text declares."""
+        """A name that is no variable. One alone may be a value of an enumeration that no text declares."""
         part = it.first
         is_alone = len(it.parts) == 1 and not part.is_subscripted and not part.is_called
         own = next((its for space in _OWN if (its := self._unit.first.get(Key(self._unit.name, space, "", name)))), None)
@@ -165,7 +165,7 @@ class _Judge:
         return any((it in types or it in self._kept.known) and not is_known_type(it) for it in name.split("_TO_"))
 
     def _member(self, it: Reference, at: int) -> Iterator[Doubtful]:
-        """What is wrong with a name behind a point. One that is called is that of an event or a method."""
+        """What is wrong with a name after a point. One that is called is that of an event or a method."""
         part = it.parts[at]
         if part.is_called or it.parts[at - 1].is_opaque:
             return
@@ -184,7 +184,7 @@ class _Judge:
         return type_ if is_plain else ""
 
     def _in(self, way: Walk | None, token: Token) -> Iterator[Doubtful]:
-        """What is wrong with a name that is to be one of what a way leads to."""
+        """What is wrong with a name that must be one of what a way leads to."""
         name, of = self._scope.name(token), self._owner(way)
         if not of:
             yield from self._in_standard_block(way, token)
@@ -198,7 +198,7 @@ class _Judge:
         yield Doubtful(NO_SUCH_MEMBER, token.start, token.end, told, meant)
 
     def _in_standard_block(self, way: Walk | None, token: Token) -> Iterator[Doubtful]:
-        """A name behind a block of IEC 61131-3 that no text declares."""
+        """A name after a block of IEC 61131-3 that no text declares."""
         ports = block_ports(way.unit) if way and not way.steps and not self._texts.unit(way.unit) else None
         if way and ports and token.upper not in ports and token.upper not in ("EN", "ENO"):
             meant = Names(ports, NEAR).near(token.words)

@@ -1,4 +1,4 @@
-"""Whose the names in an algorithm `IN ST_FULL` are, as far as its own text tells: its own variables, those of its unit, and members of these."""
+"""Whose the names in an algorithm `IN ST_FULL` are, as far as its own text shows: its own variables, those of its unit, and members of these."""
 from __future__ import annotations
 
 from collections.abc import Iterable, Iterator
@@ -27,7 +27,7 @@ class Meaning(Enum):
     """A function that is called, or what is no variable."""
     UNKNOWN = auto()
     ELSEWHERE = auto()
-    """It has the name of its package before it, or stands for the unit itself."""
+    """It has the name of its package before it, or means the unit itself."""
 
 
 @dataclass
@@ -78,7 +78,7 @@ class Scope:
         return name in self._kept.blocks or bool(type_) and not is_elementary(type_of_data(type_))
 
     def way(self, it: Reference, at: int) -> Walk | None:
-        """The way to the owner of the name number `at` of a reference; None where nothing is known of it."""
+        """The way to the owner of the name number `at` of a reference; None if it is not known."""
         return None if any(part.is_opaque or part.is_called for part in it.parts[:at]) else self._way(it, at)
 
     def _way(self, it: Reference, at: int) -> Walk | None:
@@ -103,7 +103,7 @@ class Scope:
         return Walk(owner, VARIABLE if name in self._blocks else FIELD, path) if owner else None
 
     def arguments(self, it: Reference, at: int) -> Walk | None:
-        """The way to the block whose ports the named arguments behind the name number `at` are; None where that is not known.
+        """The way to the block whose ports the named arguments after the name number `at` are; None if it is not known.
 
         It is known of a block that is called by its name. Behind that an event of it may stand, whose arguments are its ports, or a method, which has others.
         """
@@ -187,7 +187,7 @@ class _Finder:
                 self._doubt(token, False)
 
     def _member(self, token: Token, way: Walk | None) -> None:
-        """A name behind a point, or one of a field."""
+        """A name after a point, or one of a field."""
         name = self._scope.name(token)
         if not way:
             self._doubt(token, True)

@@ -1,4 +1,4 @@
-"""What the comments behind an imported unit tell of its project."""
+"""What the comments after an imported unit say about its project."""
 from __future__ import annotations
 
 import re
@@ -32,7 +32,7 @@ class Imported(NamedTuple):
 
 
 def imported(text: str) -> Imported:
-    """What the comments of a text tell."""
+    """What the comments of a text say."""
     recorded = [(kind, name.upper()) for kind, name in _RECORDED.findall(text)]
     blocks = {name: "" for kind, name in recorded if kind == "Internal"}
     for group in _INTERNAL_BLOCKS.findall(text):

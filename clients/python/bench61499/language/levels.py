@@ -10,7 +10,7 @@ AUTO, ALL, NONE = "auto", "all", "-"
 
 
 class Levels:
-    """`open` are the paths of the open instances: those that are asked for, joined by commas, all, none, or by level as many as can be read.
+    """`open` are the paths of the open instances: those that are asked for, joined by commas, all, none, or by level up to a number that can be read.
 
     What stands in one that is closed is shown as one box. The first name of a path in a system is that of its application, which is no instance.
     """

@@ -35,7 +35,7 @@ Corner = tuple[float, float]
 
 @dataclass(frozen=True)
 class _Shape:
-    """A box or a tag as it is drawn; a tag is `left` where what it stands for comes in. A subapplication that is closed has so many blocks in it."""
+    """A box or a tag as it is drawn; a tag is `left` if its port comes in. A closed subapplication has `inner` blocks in it."""
 
     name: str
     type: str
@@ -162,7 +162,7 @@ class Picture:
         return self._levels.box_of(path) != path
 
     def _end(self, end: End, rows: Mapping[str, Mapping[Port, int]], left: bool) -> list[Any]:
-        """The box, its side and its row; of a closed subapplication the middle of the side told."""
+        """The box, its side and its row; of a closed subapplication the middle of its left side or its right one."""
         path = end.box.block.path
         shown = self._levels.box_of(path)
         return [self._index[path], end.is_left, rows[path][end.port]] if shown == path else [self._index[shown], left, -1]

@@ -216,7 +216,7 @@ class Plant:
         return [it for file in self._names if (it := self._texts[file]).has([word])]
 
     def skipping(self, names: Iterable[str]) -> set[Path]:
-        """The texts that were read, have algorithms that the workbench skips, and use one of these units: what clients tell of them can change."""
+        """The texts that were read, have algorithms that the workbench skips, and use one of these units: the warnings on them can change."""
         return {file for name in names for file in self._using.get(name, ()) if self._texts[file].unit.bodies}
 
     def declaring(self, name: str) -> list[Text]:

@@ -435,7 +435,7 @@ class Reader:
             self._unit.bodies.append(read_body(made.words, self._encoded, begin, self._tokens[self._at].start, is_full))
 
     def _end_in_body(self) -> None:
-        """Tells what may follow where a text breaks off in full Structured Text: behind its variables the references are those of ST."""
+        """Notes what may follow where a text ends within full Structured Text: after its variables the references are those of ST."""
         rest, used = self._upper[self._at :], len(self._used)
         self._at = self._count
         begin = next((at for at in reversed(range(len(rest))) if rest[at] in _IN_BODIES or rest[at] == LOCALS), -1)

@@ -54,7 +54,7 @@ def is_of_folders(file: Path, target: Path, folders: Iterable[Path], endings: Co
 
 
 def leads_out(file: str | Path) -> Misuse:
-    """What is told of a link that is not read."""
+    """The message about a link that is not read."""
     return Misuse(f"{shown(file)}: is a link that leads to no *{ENDING} file of the folders that are named, so it is not read")
 
 
@@ -72,7 +72,7 @@ def _is_folder(path: Path) -> bool:
 
 
 def _files_in(folder: Path, failed: Callable[[Misuse], object]) -> Iterator[tuple[str, Path]]:
-    """The `*.fb` files of a folder and of its inner ones, but for hidden ones, each behind the path to which its links lead. Links to folders are not followed."""
+    """The `*.fb` files of a folder and of its inner ones, but for hidden ones, each after the path to which its links lead. Links to folders are not followed."""
     root, real = os.fspath(folder), os.path.realpath(folder)
 
     def tell(path: str, error: OSError) -> None:
@@ -169,7 +169,7 @@ def commit_units(session: Session, units: list[Unit], progress: Callable[[int], 
 
 
 def _put_over(session: Session, batch: list[Put]) -> int:
-    """Puts units over what there is, and gives how many there were. Units mostly came by one commit, so the revision of one is tried for those behind it.
+    """Puts units over the present ones, and gives how many there were. Units mostly came by one commit, so the revision of one is tried for those after it.
 
     Raises `Misuse` where somebody changes one meanwhile: of two that put one folder over another without an end none would win.
     """

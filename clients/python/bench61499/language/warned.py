@@ -14,7 +14,7 @@ CODES = {missing_types.CODE: "the type of a value is nowhere", **full_checks.COD
 
 
 def warned(text: str, unit: str, units: Container[str], texts: Texts, is_broken: Callable[[str], bool]) -> list[Doubtful]:
-    """All warnings on the text of a unit. `units` are the names of all units in upper case; of those that are broken nothing is said of their names."""
+    """All warnings on the text of a unit. `units` are the names of all units in upper case; those that are broken get no warnings on their names."""
     found = [
         Doubtful(missing_types.CODE, it.start, it.end, it.explanation, it.meant)
         for it in missing_types.missing_types(text, units, lambda words: near_type(texts.units("TYPE"))(words))

@@ -24,7 +24,7 @@ def create(file: Path, content: bytes) -> None:
 
 
 def write_over(file: Path, content: bytes, mode: int = 0o666) -> None:
-    """Puts a new file in the place of one that is there; where that is a link, in the place of the link. Raises `OSError`."""
+    """Puts a new file in the place of one that is there; if this is a link, in the place of the link. Raises `OSError`."""
     with _draft(file.parent, content, mode) as draft:
         os.replace(draft, file)
     sync_folder(file.parent)

@@ -216,7 +216,7 @@ class Answers:
         return hints(self._plant, text, *self._span(text, params)) if self._is_read("inlayHint") else []
 
     def _is_read(self, what: str) -> bool:
-        """Whether all texts are read; else the editor is told to ask again once they are."""
+        """Whether all texts are read; else the editor gets the request to ask again once they are."""
         if not self._plant.is_read():
             self._lacking.add(what)
         return self._plant.is_read()

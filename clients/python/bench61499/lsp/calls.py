@@ -1,4 +1,4 @@
-"""What feeds an end of a connection, and where it leads, as the hierarchy of calls of an editor: by the networks and plans that the workbench has."""
+"""What feeds an end of a connection, and what it feeds, as the hierarchy of calls of an editor: by the networks and plans that the workbench has."""
 from __future__ import annotations
 
 from collections import defaultdict
@@ -37,7 +37,7 @@ class _Site(NamedTuple):
 
 @dataclass
 class _Request:
-    """One that waits: for texts that are to be read, and then for values of the workbench."""
+    """One that waits: for texts that have to be read, and then for values of the workbench."""
 
     number: Any
     method: str
@@ -48,7 +48,7 @@ class _Request:
 
 
 class Calls:
-    """Answers once the workbench has given the networks. `ask` has keys asked for, and gives None as long as that can't be done; `trouble` tells why
+    """Answers once the workbench has given the networks. `ask` has keys asked for, and gives None as long as that can't be done; `trouble` gives the reason
     it can't be done at all."""
 
     def __init__(self, plant: Callable[[], Plant], ask: Callable[[list[Key]], Future[Values] | None], trouble: Callable[[], str], send: Callable[[Message], None]):
@@ -109,7 +109,7 @@ class Calls:
     # Ends
 
     def _ends(self, params: Any) -> tuple[list[tuple[str, str]], str]:
-        """What stands at a position, as ends of networks: of each system with such an instance, or else of subapplications. Also the type of the subapplication whose port it is."""
+        """What is at a position, as ends of networks: of each system with such an instance, or else of subapplications. Also the type of the subapplication whose port it is."""
         plant = self._plant
         text = plant.text(path_of(params["textDocument"]["uri"]))
         site = _site(text, place(text.places, params["position"])) if text else None

@@ -78,7 +78,7 @@ def candidates(plant: Plant, text: Text, place: int) -> list[Candidate]:
 
 
 def _of_full(text: Text, before: Unit, place: int) -> Iterator[Candidate]:
-    """The variables of an algorithm IN ST_FULL around a place, and functions, where a value may stand."""
+    """The variables of an algorithm IN ST_FULL around a place, and functions, where a value is possible."""
     body = next((it for it in text.unit.bodies if it.begin <= place <= it.end), None)
     if body and any(it.space == VARIABLE and not it.path for it in before.wanted):
         yield from (Candidate(it.name.words, ItemKind.VARIABLE, f"{it.section} : {it.spelled}") for it in body.locals)

@@ -103,7 +103,7 @@ def _events(plant: Plant, text: Text, it: Connection) -> Iterator[Connection]:
 
 
 def _goes_with(plant: Plant, event: tuple[Use, ...], data: tuple[Use, ...]) -> bool:
-    """Whether an end of an event is of the same instance as one of data, or of the unit itself as that is, and has the data behind WITH."""
+    """Whether an end of an event is of the same instance as one of data, or of the unit itself as that is, and has the data after WITH."""
     if [one.key.name for one in event[:-1]] != [one.key.name for one in data[:-1]]:
         return False
     key, name = plant.key(event[-1]), data[-1].key.name

@@ -107,7 +107,7 @@ def _unread(text: Text, place: int) -> Iterator[Fix]:
 
 
 def _meant(plant: Plant, text: Text) -> Iterator[Fix]:
-    """The names that may be meant where this client warns of one."""
+    """The names that may be meant by one of which this client warns."""
     units = frozenset(name.upper() for kind in KINDS for name in plant.kinds(kind))
     for it in warned(text.text, text.name, units, plant.known, lambda _: False):
         if it.meant:

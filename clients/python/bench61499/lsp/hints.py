@@ -15,7 +15,7 @@ _MOST_NAMED = 2
 
 
 def hints(plant: Plant, text: Text, start: int, end: int) -> list[dict[str, Any]]:
-    """The hints between two places: behind an instance `on NORTH.MOTION`, by the mappings of all systems, and behind the source of a connection its type."""
+    """The hints between two places: after an instance `on NORTH.MOTION`, by the mappings of all systems, and after the source of a connection its type."""
     its = [it for it in text.unit.declared if it.section in ("FBS", "SUBAPPS") and start <= it.end <= end]
     homes = _homes(plant, text, its) if its else {}
     found = [_hint(text, it.end, f" on {_named(names)}", _OTHER) for it in its if (names := homes.get(it.start))]

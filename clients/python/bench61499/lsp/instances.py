@@ -7,7 +7,7 @@ from bench61499.language.declarations import TYPE, Declaration, Key, Unit
 from bench61499.language.plant import Plant, Text
 
 _MOST_INSTANCES = 4_096
-"""Instances that are looked at in one system: as many as one may have."""
+"""Instances that are looked at in one system: the most that one may have."""
 
 
 def leading_to(plant: Plant, name: str) -> set[str]:

@@ -56,7 +56,7 @@ SYMBOL_KINDS = {
 
 
 _LEAST_LETTERS, _MOST_NAMES = 2, 500
-"""Letters of a query for which other names than those of units are looked for, and so many of these at most."""
+"""Letters of a query from which on it finds other names than those of units, and how many of these at most."""
 
 
 @dataclass(frozen=True)

@@ -12,7 +12,7 @@ _TOKEN = "bench61499-reading"
 
 
 class Reading:
-    """Shows it from the moment on at which many units are to be read, each percent once, until all are."""
+    """Shows it from the moment on at which many units wait to be read, each percent once, until all are."""
 
     def __init__(self, asking: Asking):
         self._asking = asking

@@ -51,7 +51,7 @@ def renamed(plant: Plant, found: Found | None, name: str, with_file: bool = Fals
 
 
 def _file(plant: Plant, key: Key, name: str) -> tuple[str, str] | None:
-    """The file that is named after a unit, and its new name, both as URIs; None where it has another name, or the new one is taken."""
+    """The file that is named after a unit, and its new name, both as URIs; None if it has another name, or the new one is taken."""
     text = plant.declaring(key.unit)[0]
     new = text.file.with_stem(name)
     is_named = text.file.stem.upper() == key.name and text.file.stem != name

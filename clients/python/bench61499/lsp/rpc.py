@@ -17,7 +17,7 @@ REQUEST_FAILED = -32803
 REQUEST_CANCELLED = -32800
 
 MOST = 64 * 1024 * 1024
-"""Bytes of a message; behind a longer one nothing is read."""
+"""Bytes of a message; after a longer one nothing is read."""
 _LONGEST_HEADER, _DIGITS = 4_096, 20
 
 ERROR, WARNING, INFO = 1, 2, 3

@@ -15,7 +15,7 @@ _IN_ALGORITHMS = (VARIABLE, INSTANCE, FIELD, LOCAL)
 
 
 def in_doubt(plant: Plant, key: Key) -> str | None:
-    """Where a name that may be this one stands in an algorithm of which that is not known; None where there is none."""
+    """The place of a name in an algorithm that may or may not be this one; None if there is none."""
     if key.space not in _IN_ALGORITHMS:
         return None
     for text in sorted(plant.texts_with(key.name.rstrip("_") or key.name), key=lambda it: it.uri):
@@ -37,7 +37,7 @@ def _as_other(plant: Plant, key: Key) -> str | None:
 
 
 def captured(plant: Plant, key: Key, name: str) -> str | None:
-    """Where a new name, in upper case, would be taken for something else in an algorithm that the workbench skips; None where it would not."""
+    """Where a new name, in upper case, would be taken for something else in an algorithm that the workbench skips; None if it would not."""
     for text in plant.declaring(key.unit) if key.space in (VARIABLE, INSTANCE, LOCAL) else ():
         for body in text.unit.bodies:
             own = _own_place(text, body, key)
@@ -56,7 +56,7 @@ def _own_place(text: Text, body: Body, key: Key) -> int:
 
 
 def _first_of(body: Body, name: str) -> Token | None:
-    """The first token of an algorithm that is a name, and no member behind a point."""
+    """The first token of an algorithm that is a name, and no member after a point."""
     its = (it for before, it in pairwise([None, *body.tokens]) if it and it.kind == "word" and not (before and before.words == "."))
     return next((it for it in its if name_of(it.words) == name), None)
 

@@ -87,7 +87,7 @@ class Talk:
         self._submit(turn)
 
     def values(self, keys: list[Key]) -> Future[dict[Key, Any]] | None:
-        """Asks for values, behind the turn that is under way; None if there is no workbench, or it has no texts yet. `wake` is called when they are there."""
+        """Asks for values, after the turn that is under way; None if there is no workbench, or it has no texts yet. `wake` is called when they are there."""
         if not self._session or not self._texts:
             return None
         return woken(self._thread.submit(_values, self._session, keys), self._wake)

@@ -60,7 +60,7 @@ class Report:
             self._complain(words)
 
     def is_over(self, of: str) -> bool:
-        """Tells that it can be done now, and whether it could not be done before."""
+        """Prints that it can be done now, and whether it could not be done before."""
         return self._troubles.pop(of, None) is not None
 
     def tell_problems(self, problems: Mapping[str, str]) -> None:
