@@ -9,12 +9,12 @@ from pathlib import Path
 from unittest.mock import patch
 
 from editing import Editor, LspTest
-from hall import hall, write_hall
+from hall import CELLS, hall, write_hall
 from support import HISTORY, InFolder, free_port, hosting, serving, used, workbench
 
 from bench61499 import ConnectionEnded, HistoryFull, Put, Remove, Session
 from bench61499.lsp.checking import QUIET, Checking
-from bench61499.lsp.commits import Unit, Wanted
+from bench61499.lsp.commits import News, Unit, Wanted
 from bench61499.lsp.shared import SharedTexts
 from bench61499.lsp.talk import NO_TEXTS
 from bench61499.lsp.teamtalk import STARTED_AGAIN
@@ -427,6 +427,25 @@ class QuietTest(InFolder):
         while not condition() and time.perf_counter() < end:
             checking.step()
             time.sleep(0.01)
+
+
+class LargeTest(unittest.TestCase):
+    """A folder of which an own workbench does not get all at once."""
+
+    def test_what_open_texts_rest_on_comes_first(self) -> None:
+        texts, turns = hall(), list[News]()
+        with Session.script(workbench()) as session, patch("bench61499.lsp.shared.MANY_NEW", 5):
+            its = SharedTexts(session, False)
+            wanted, is_over = Wanted(texts, open={"CELL_B": texts["CELL_B"]}), False
+            while not is_over:
+                is_over = its.turn(wanted) is None
+                turns.append(its.take_news())
+        first = next(at for at, it in enumerate(turns) if it.faults)
+        self.assertEqual(turns[first].faults, {"CELL_B": ()})
+        put = {unit for it in turns[: first + 1] for unit, unit_now in it.units.items() if unit_now.revision}
+        self.assertTrue({"CELL_B", *CELLS["CELL_B"]} <= put < texts.keys(), put)
+        self.assertFalse(any(it.is_brought for it in turns[: first + 1]))
+        self.assertEqual({unit: faults for it in turns for unit, faults in it.faults.items()}, dict.fromkeys(texts, ()))
 
 
 if __name__ == "__main__":

@@ -115,7 +115,8 @@ class DayTest(InFolder):
         self.log_said = self.folder / "log"
         with open(self.log_said, "wb") as said:
             log = subprocess.Popen([CLIENTS / "log", "--connect", f":{self.tap.port}", "--follow", "--git", self.history], stdout=said, stderr=subprocess.STDOUT)
-        self.addCleanup(lambda: (log.kill(), log.wait()))
+        self.addCleanup(log.wait)
+        self.addCleanup(log.kill)
         for folder in (self.ann.folder, self.ben.folder, cid):
             self.assertIn("The workbench has the same texts.", self.check(folder).stdout)
 

@@ -475,10 +475,13 @@ def _brief_reader(kind: Kind) -> Callable[[dict[str, Any]], Any]:
     return lambda reply: There() if reply is _THERE else read(reply)
 
 
-def _decode_briefly(answer: bytes) -> dict[str, Any]:
+def _decode(answer: bytes) -> Any:
+    return json.loads(answer)
+
+
+def _decode_briefly(answer: bytes) -> Any:
     """A reply, decoded if it is no network or plan that is there. Replies are compact, and their members are in order."""
-    reply: dict[str, Any] = _THERE if answer.startswith((b'{"net":{"blocks":', b'{"deploy":{"cuts":')) else json.loads(answer)
-    return reply
+    return _THERE if answer.startswith((b'{"net":{"blocks":', b'{"deploy":{"cuts":')) else _decode(answer)
 
 
 def _present(read: Callable[[dict[str, Any]], Value]) -> Callable[[dict[str, Any]], tuple[Value]]:
@@ -798,7 +801,7 @@ class Session:
         self._channel.send(line + b"\n")
 
     def _reply(
-        self, read: Callable[[dict[str, Any]], Value], request: dict[str, Any] | None = None, longer: float = 0, decode: Callable[[bytes], Any] = json.loads
+        self, read: Callable[[dict[str, Any]], Value], request: dict[str, Any] | None = None, longer: float = 0, decode: Callable[[bytes], Any] = _decode
     ) -> Value:
         answer = self._channel.receive(longer)
         try:
@@ -955,8 +958,7 @@ class Session:
     def _all(self, op: str, keys: Iterable[Key], is_brief: bool) -> dict[Key, Any]:
         its, reader = list(dict.fromkeys(keys)), _brief_reader if is_brief else _value_reader
         requests = [({"op": op, "kind": kind, "unit": unit}, _present(reader(kind))) for kind, unit in its]
-        decode: Callable[[bytes], Any] = _decode_briefly if is_brief else json.loads
-        found = self._exchange_all(requests, NoSuchKey, decode)
+        found = self._exchange_all(requests, NoSuchKey, _decode_briefly if is_brief else _decode)
         return {key: it[0] for key, it in zip(its, found, strict=True) if it}
 
     def watch(self, after: int, wait: float = 0) -> Watched:
@@ -966,7 +968,7 @@ class Session:
         return self._reply(_read_watched, request, longer=wait)
 
     def _exchange_all(
-        self, requests: list[tuple[dict[str, Any], Callable[[dict[str, Any]], Value]]], absent: type[Refused], decode: Callable[[bytes], Any] = json.loads
+        self, requests: list[tuple[dict[str, Any], Callable[[dict[str, Any]], Value]]], absent: type[Refused], decode: Callable[[bytes], Any] = _decode
     ) -> list[Value | None]:
         """Sends short requests, many before the first of them is answered; gives None for those refused as `absent`."""
         found: list[Value | None] = []
