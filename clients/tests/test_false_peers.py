@@ -64,6 +64,23 @@ class ServerTest(unittest.TestCase):
             with answering(GREETING, reply + b"\n") as port, Session.connect("127.0.0.1", port) as session:
                 self.assertRaises(BadReply, session.commit, [])
 
+    def test_names_that_no_workbench_has(self) -> None:
+        """By names files are written and pictures are drawn."""
+        evil = '"];x[image=\\"/etc/passwd\\"'
+        asked: list[tuple[Callable[[Session], object], str]] = [
+            (lambda it: it.units(), '{"at":1,"units":[["../A",1]]}'),
+            (lambda it: it.watch(0), '{"at":1,"events":[["commit",1,1,["../A"],[]]]}'),
+            (lambda it: it.watch(0), '{"at":1,"events":[["value","net","A\\n"]]}'),
+            (lambda it: it.peek("net", "A"), f'{{"net":{{"blocks":[["A.B","{evil}"]],"links":[],"borders":[]}}}}'),
+            (lambda it: it.peek("net", "A"), f'{{"net":{{"blocks":[],"links":[["event","A.B","{evil}"]],"borders":[]}}}}'),
+            (lambda it: it.peek("net", "A"), f'{{"net":{{"blocked":["{evil}"]}}}}'),
+            (lambda it: it.peek("deploy", "A"), f'{{"deploy":{{"cuts":[],"resources":[["{evil}",[]]]}}}}'),
+            (lambda it: it.peek("deploy", "A"), '{"deploy":{"faulty":[["UNMAPPED",1]]}}'),
+        ]
+        for ask, reply in asked:
+            with answering(GREETING, f"{reply}\n".encode()) as port, Session.connect("127.0.0.1", port) as session:
+                self.assertRaises(BadReply, ask, session)
+
     def test_a_list_of_units_that_goes_round_ends(self) -> None:
         page = b'{"at":1,"units":[["A",1]]}\n'
         with answering(GREETING, page, page, page) as port, Session.connect("127.0.0.1", port) as session:
