@@ -10,6 +10,7 @@ from collections.abc import Callable, Iterable, Iterator
 from contextlib import contextmanager, suppress
 from itertools import count, repeat
 from pathlib import Path
+from typing import Any
 from unittest.mock import patch
 
 from support import CLIENTS, GREETING, InFolder, answering, hosting, workbench
@@ -103,7 +104,7 @@ class ServerTest(unittest.TestCase):
         asked: list[object] = []
         look_up = socket.getaddrinfo
 
-        def looking_up(host: object, *more: object) -> object:
+        def looking_up(host: Any, *more: Any) -> Any:
             asked.append(host)
             return look_up(host, *more)
 
@@ -128,7 +129,7 @@ class SecretTest(InFolder):
 class EditorTest(unittest.TestCase):
     def ended(self, sent: bytes) -> tuple[int, bytes]:
         """The status of a language server to which this was sent, and what it has sent, once the editor has closed its pipe."""
-        words = [CLIENTS / "lsp", "--program", workbench()]
+        words = [str(CLIENTS / "lsp"), "--program", workbench()]
         with subprocess.Popen(words, stdin=subprocess.PIPE, stdout=subprocess.PIPE) as server:
             try:
                 out, _ = server.communicate(sent, timeout=WAIT)

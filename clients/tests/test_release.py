@@ -306,7 +306,7 @@ class WordsTest(InFolder):
     @unittest.skipUnless(shutil.which("systemd-analyze"), "systemd is not installed")
     def test_the_unit_gives_little_away(self) -> None:
         """Its exposure is at most 2.0 of 10."""
-        words = ["systemd-analyze", "security", "--offline=true", "--threshold=20", PACKAGING / "bench61499.service"]
+        words = ["systemd-analyze", "security", "--offline=true", "--threshold=20", str(PACKAGING / "bench61499.service")]
         ran = subprocess.run(words, capture_output=True, text=True)
         self.assertEqual(ran.returncode, 0, ran.stdout + ran.stderr)
         self.assertIn("\nMemoryMax=", (PACKAGING / "bench61499.service").read_text())
