@@ -284,7 +284,7 @@ class PatienceTest(Shared):
         for server in hosting("--workers", "1"), serving(9, "--workers", "1"):
             with server as port, Session.connect("127.0.0.1", port) as thief:
                 job = stolen(thief)
-                for words in [], ["--plans"]:
+                for words in ((), ("--plans",)):
                     ran = self.check(port, "--patience", "1", *words)
                     self.assertEqual((ran.returncode, ran.stdout), (2, ""))
                     self.assertEqual(ran.stderr, f"check: no result for 1 seconds: faults of {job}; another session may have taken them and not delivered them\n")

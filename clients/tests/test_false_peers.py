@@ -10,6 +10,7 @@ from collections.abc import Callable, Iterable, Iterator
 from contextlib import contextmanager, suppress
 from itertools import count, repeat
 from pathlib import Path
+from typing import Any
 from unittest.mock import patch
 
 from support import CLIENTS, GREETING, InFolder, answering, hosting, workbench
@@ -64,6 +65,23 @@ class ServerTest(unittest.TestCase):
             with answering(GREETING, reply + b"\n") as port, Session.connect("127.0.0.1", port) as session:
                 self.assertRaises(BadReply, session.commit, [])
 
+    def test_names_that_no_workbench_has(self) -> None:
+        """By names files are written and pictures are drawn."""
+        evil = '"];x[image=\\"/etc/passwd\\"'
+        asked: list[tuple[Callable[[Session], object], str]] = [
+            (lambda it: it.units(), '{"at":1,"units":[["../A",1]]}'),
+            (lambda it: it.watch(0), '{"at":1,"events":[["commit",1,1,["../A"],[]]]}'),
+            (lambda it: it.watch(0), '{"at":1,"events":[["value","net","A\\n"]]}'),
+            (lambda it: it.peek("net", "A"), f'{{"net":{{"blocks":[["A.B","{evil}"]],"links":[],"borders":[]}}}}'),
+            (lambda it: it.peek("net", "A"), f'{{"net":{{"blocks":[],"links":[["event","A.B","{evil}"]],"borders":[]}}}}'),
+            (lambda it: it.peek("net", "A"), f'{{"net":{{"blocked":["{evil}"]}}}}'),
+            (lambda it: it.peek("deploy", "A"), f'{{"deploy":{{"cuts":[],"resources":[["{evil}",[]]]}}}}'),
+            (lambda it: it.peek("deploy", "A"), '{"deploy":{"faulty":[["UNMAPPED",1]]}}'),
+        ]
+        for ask, reply in asked:
+            with answering(GREETING, f"{reply}\n".encode()) as port, Session.connect("127.0.0.1", port) as session:
+                self.assertRaises(BadReply, ask, session)
+
     def test_a_list_of_units_that_goes_round_ends(self) -> None:
         page = b'{"at":1,"units":[["A",1]]}\n'
         with answering(GREETING, page, page, page) as port, Session.connect("127.0.0.1", port) as session:
@@ -86,7 +104,7 @@ class ServerTest(unittest.TestCase):
         asked: list[object] = []
         look_up = socket.getaddrinfo
 
-        def looking_up(host: object, *more: object) -> object:
+        def looking_up(host: Any, *more: Any) -> Any:
             asked.append(host)
             return look_up(host, *more)
 
@@ -111,7 +129,7 @@ class SecretTest(InFolder):
 class EditorTest(unittest.TestCase):
     def ended(self, sent: bytes) -> tuple[int, bytes]:
         """The status of a language server to which this was sent, and what it has sent, once the editor has closed its pipe."""
-        words = [CLIENTS / "lsp", "--program", workbench()]
+        words = [str(CLIENTS / "lsp"), "--program", workbench()]
         with subprocess.Popen(words, stdin=subprocess.PIPE, stdout=subprocess.PIPE) as server:
             try:
                 out, _ = server.communicate(sent, timeout=WAIT)

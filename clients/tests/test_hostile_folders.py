@@ -217,6 +217,13 @@ class StateTest(HostileTest):
             told = "sync: plant/.bench61499/state.sqlite: has other tables than those of sync, and may come from elsewhere; remove it\n"
             self.assertEqual((ran.returncode, ran.stderr), (2, told))
 
+    def test_a_dry_run_copies_nothing_that_a_link_leads_to(self) -> None:
+        self.state.unlink()
+        self.state.symlink_to("/dev/zero")
+        with hosting() as port:
+            ran = run("sync", "plant", "--connect", f":{port}", "--dry-run", folder=self.folder)
+        self.assertEqual((ran.returncode, ran.stderr), (2, "sync: plant/.bench61499/state.sqlite: is a link, and has to be none\n"))
+
     def test_values_of_gigabytes_and_values_that_are_no_words(self) -> None:
         (self.plant / ".bench61499").rename(self.folder / "away")
         Store(self.plant).close()

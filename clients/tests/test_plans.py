@@ -106,7 +106,7 @@ class PlansTest(InFolder):
             (self.folder / "B.fb").unlink()
             self.write("A.fb", "SUBAPPLICATION A END_SUBAPPLICATION")
             self.edit("PLANT.fb", "LINE.PANEL ON SOUTH.SCREEN;", "")
-            ran = run("check", ".", "--connect", f":{port}", "--plans", "--quiet", folder=self.folder)
+            ran = run("check", ".", "--connect", f":{port}", "--plans", "--quiet", "--trust-server", folder=self.folder)
         self.assertEqual((ran.returncode, ran.stdout), (1, "A.fb:1:16: RECURSIVE: A contains itself\n"))
 
     def test_a_plan_as_json(self) -> None:

@@ -136,7 +136,7 @@ class BuiltTest(InFolder):
     def stamp(self, content: bytes) -> str:
         """Leaves what rt leaves when it has proved a program; gives the sum of the sources."""
         ran = subprocess.run([sys.executable, "-c", SUM], cwd=self.folder, capture_output=True, text=True, check=True)
-        Path(f"{self.built}.stamp").write_text(ran.stdout.strip() + hashlib.sha256(content).hexdigest())
+        Path(f"{self.built}.stamp").write_text(ran.stdout.strip() + hashlib.sha256(content).hexdigest(), encoding="utf-8")
         return ran.stdout.strip()
 
     def test_a_proved_program_is_released_as_one(self) -> None:
@@ -152,7 +152,7 @@ class BuiltTest(InFolder):
         self.refused()
         self.stamp(b"another program")
         self.refused()
-        Path(f"{self.built}.stamp").write_text("0" * 64 + hashlib.sha256(self.built.read_bytes()).hexdigest())
+        Path(f"{self.built}.stamp").write_text("0" * 64 + hashlib.sha256(self.built.read_bytes()).hexdigest(), encoding="utf-8")
         self.refused()
 
     def test_times_of_files_prove_nothing(self) -> None:
@@ -306,7 +306,7 @@ class WordsTest(InFolder):
     @unittest.skipUnless(shutil.which("systemd-analyze"), "systemd is not installed")
     def test_the_unit_gives_little_away(self) -> None:
         """Its exposure is at most 2.0 of 10."""
-        words = ["systemd-analyze", "security", "--offline=true", "--threshold=20", PACKAGING / "bench61499.service"]
+        words = ["systemd-analyze", "security", "--offline=true", "--threshold=20", str(PACKAGING / "bench61499.service")]
         ran = subprocess.run(words, capture_output=True, text=True)
         self.assertEqual(ran.returncode, 0, ran.stdout + ran.stderr)
         self.assertIn("\nMemoryMax=", (PACKAGING / "bench61499.service").read_text())

@@ -2,6 +2,7 @@
 from __future__ import annotations
 
 import json
+import re
 import socket
 import subprocess
 import threading
@@ -39,6 +40,7 @@ Key = tuple[Kind, str]
 Sort = Literal["event", "data", "adapter"]
 Value = TypeVar("Value")
 
+_PATH = re.compile(r"\w+(\.\w+)*", re.ASCII)
 # No revision is as high: a change written against it is always refused.
 _NO_REVISION = 2**64 - 1
 _TURNS = 100
@@ -408,7 +410,7 @@ def _read_status(reply: dict[str, Any]) -> Status:
 
 
 def _read_revisions(reply: dict[str, Any]) -> Revisions:
-    return Revisions(int(reply["at"]), tuple(Revision(str(unit), int(number)) for unit, number in reply["units"]))
+    return Revisions(int(reply["at"]), tuple(Revision(_named(unit), int(number)) for unit, number in reply["units"]))
 
 
 def _read_watched(reply: dict[str, Any]) -> Watched:
@@ -419,18 +421,25 @@ def _read_watched(reply: dict[str, Any]) -> Watched:
 def _read_event(event: list[Any]) -> Event:
     match event:
         case ["commit", number, caller, put, removed]:
-            return Commit(int(number), int(caller), tuple(put), tuple(removed))
+            return Commit(int(number), int(caller), tuple(map(_named, put)), tuple(map(_named, removed)))
         case ["value", kind, unit] if kind in _READERS:
-            return Result(kind, str(unit))
+            return Result(kind, _named(unit))
     raise ValueError(event)
 
 
+def _named(words: str) -> Any:
+    """A name, or a path of names. Raises `ValueError` for other words: what draws or writes by names need not expect them from a server that is none."""
+    if not _PATH.fullmatch(words):
+        raise ValueError(words)
+    return words
+
+
 def _read_faults(reply: dict[str, Any]) -> tuple[Fault, ...]:
-    return tuple(Fault(str(code), int(start), int(end)) for code, start, end in reply["faults"])
+    return tuple(Fault(_named(code), int(start), int(end)) for code, start, end in reply["faults"])
 
 
 def _read_links(links: list[Any]) -> tuple[Link, ...]:
-    return tuple(Link(sort, source, destination) for sort, source, destination in links)
+    return tuple(Link(*map(_named, it)) for it in links)
 
 
 def _read_net(reply: dict[str, Any]) -> Net:
@@ -438,11 +447,11 @@ def _read_net(reply: dict[str, Any]) -> Net:
         case "too_large":
             return TooLarge()
         case {"blocked": units}:
-            return Blocked(tuple(units))
+            return Blocked(tuple(map(_named, units)))
         case {"recursive": units}:
-            return Recursive(tuple(units))
+            return Recursive(tuple(map(_named, units)))
         case {"blocks": blocks, "links": links, "borders": borders}:
-            return Flat(tuple(Block(*it) for it in blocks), _read_links(links), tuple(Border(*it) for it in borders))
+            return Flat(tuple(Block(*map(_named, it)) for it in blocks), _read_links(links), tuple(Border(*map(_named, it)) for it in borders))
     raise ValueError(reply)
 
 
@@ -451,9 +460,9 @@ def _read_deploy(reply: dict[str, Any]) -> Deploy:
         case {"stopped": stopped} if not isinstance(net := _read_net({"net": stopped}), Flat):
             return Stopped(net)
         case {"faulty": misplaced}:
-            return Faulty(tuple(Misplaced(*it) for it in misplaced))
+            return Faulty(tuple(Misplaced(*map(_named, it)) for it in misplaced))
         case {"cuts": cuts, "resources": resources}:
-            return Plan(_read_links(cuts), tuple(Resource(name, tuple(commands)) for name, commands in resources))
+            return Plan(_read_links(cuts), tuple(Resource(_named(name), tuple(map(str, commands))) for name, commands in resources))
     raise ValueError(reply)
 
 

@@ -18,7 +18,7 @@ from bench61499.sync.deciding import Step
 from bench61499.sync.keeper import FEW, Keeper, Ways
 from bench61499.sync.report import Report
 from bench61499.sync.saved import Saved
-from bench61499.sync.store import NAME, STATE, Store
+from bench61499.sync.store import NAME, STATE, Store, refuse_links
 from bench61499.sync.team import Team
 
 LOOK, LONGEST_LOOK = 0.25, 2.0
@@ -90,8 +90,9 @@ def opened(folder: Path, is_dry: bool) -> Iterator[tuple[Saved, Store]]:
 
 
 def _copy_state(folder: Path, copy: Path) -> None:
+    refuse_links(folder / NAME)
     state = folder / NAME / STATE
-    if state.exists():
+    if state.is_file():
         (copy / NAME).mkdir()
         shutil.copy(state, copy / NAME / STATE)
 

@@ -103,7 +103,7 @@ def stamps_of(paths: Iterable[str | Path], with_inner: bool = True) -> Iterator[
     folders = [Path(os.path.realpath(it)) for it in its]
     failed: list[tuple[str, OSError]] = []
     for path in its:
-        for entry in walk(path, lambda *it: failed.append(it), is_hidden if with_inner else lambda _: True):
+        for entry in walk(path, lambda inner, error: failed.append((inner, error)), is_hidden if with_inner else lambda _: True):
             if can_be_unit(entry.name):
                 yield _state_of(entry, folders) if entry.is_symlink() else (entry.path, stamp_of(entry))
     for name, error in failed:

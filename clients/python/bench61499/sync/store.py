@@ -60,9 +60,7 @@ class Store:
             raise Misuse(f"{self.folder}: can't be used: {getattr(error, 'strerror', None) or error}") from error
 
     def _prepare(self) -> None:
-        there = self.folder.iterdir() if self.folder.exists() else ()
-        if link := next((it for it in (self.folder, *there) if it.is_symlink()), None):
-            raise Misuse(f"{link}: is a link, and has to be none")
+        refuse_links(self.folder)
         for folder in (self.folder, self.drafts, self.kept):
             folder.mkdir(exist_ok=True)
         ignored = self.folder / ".gitignore"
@@ -183,6 +181,13 @@ class Store:
         folder.mkdir(exist_ok=True)
         moment = datetime.now(UTC).strftime("%Y%m%dT%H%M%S.%f")
         return folder / f"{moment}-{words}"
+
+
+def refuse_links(folder: Path) -> None:
+    """Raises `Misuse` if a folder is a link, or has one: a project from elsewhere could have it lead anywhere."""
+    there = folder.iterdir() if folder.exists() else ()
+    if link := next((it for it in (folder, *there) if it.is_symlink()), None):
+        raise Misuse(f"{link}: is a link, and has to be none")
 
 
 def is_of_sync(tables: sqlite3.Connection) -> bool:
