@@ -1,7 +1,6 @@
 -- What the contracts of this crate cite.
 pub mod Requests
 pub mod RequestView
-pub mod InRange
 pub mod Replies
 pub mod NetReplies
 pub mod DeployReplies

@@ -2,16 +2,13 @@
 #![tactic(auto)]
 
 mod deploy_reply;
-mod in_range;
 mod laws;
 mod net_reply;
-mod number;
 mod read_reply;
 mod reply;
 mod request;
 mod to_json;
 
-pub use json::Scratch;
 pub use laws::limits_are_read;
 pub use reply::{Refusal, Reply};
 pub use request::{AskedChange, AskedReading, Request, request_in};
