@@ -7,6 +7,7 @@ mod net_reply;
 mod read_reply;
 mod reply;
 mod request;
+mod small_reply;
 mod to_json;
 
 pub use laws::limits_are_read;
