@@ -3,5 +3,4 @@ pub mod Changes
 pub mod Entries
 pub mod Members
 pub mod Printed
-pub mod Ranges
 pub mod RequestReads

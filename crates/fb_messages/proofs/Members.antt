@@ -25,18 +25,3 @@ pub two_members : {E : Type 0} (r : Result (Unit {0}) E) (old begun one two new 
 two_members r old begun one two new a b start first second end =
     after r old begun new (begin_object ∷ []) (a ++ (b ++ end_object ∷ [])) start
     (after r begun one new a (b ++ end_object ∷ []) first (after r one two new b (end_object ∷ []) second (one_token r two new end_object end)))
-
-pub three_members : {E : Type 0} (r : Result (Unit {0}) E) (old begun one two three new : Written) (a b c : List Token)
-    → (begun.before ≡ old.before) × (begun.tokens ≡ old.tokens ++ begin_object ∷ [])
-    → (one.before ≡ begun.before) × (one.tokens ≡ begun.tokens ++ a) → (two.before ≡ one.before) × (two.tokens ≡ one.tokens ++ b)
-    → (three.before ≡ two.before) × (three.tokens ≡ two.tokens ++ c) → Writes r three new end_object
-    → Adds r old new (begin_object ∷ (a ++ (b ++ (c ++ end_object ∷ []))))
-three_members r old begun one two three new a b c start first second third end =
-    after r old begun new (begin_object ∷ []) (a ++ (b ++ (c ++ end_object ∷ []))) start
-    (after r begun one new a (b ++ (c ++ end_object ∷ [])) first (two_more r one two three new b c second third end))
-  where
-    two_more : {E : Type 0} (r : Result (Unit {0}) E) (old one two new : Written) (a b : List Token)
-        → (one.before ≡ old.before) × (one.tokens ≡ old.tokens ++ a) → (two.before ≡ one.before) × (two.tokens ≡ one.tokens ++ b) → Writes r two new end_object
-        → Adds r old new (a ++ (b ++ end_object ∷ []))
-    two_more r old one two new a b first second end =
-        after r old one new a (b ++ end_object ∷ []) first (after r one two new b (end_object ∷ []) second (one_token r two new end_object end))

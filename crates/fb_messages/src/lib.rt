@@ -2,16 +2,14 @@
 #![tactic(auto)]
 
 mod deploy_reply;
-mod in_range;
 mod laws;
 mod net_reply;
-mod number;
 mod read_reply;
 mod reply;
 mod request;
+mod small_reply;
 mod to_json;
 
-pub use json::Scratch;
 pub use laws::limits_are_read;
 pub use reply::{Refusal, Reply};
 pub use request::{AskedChange, AskedReading, Request, request_in};

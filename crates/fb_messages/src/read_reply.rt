@@ -1,39 +1,17 @@
-//! What reads show, as JSON.
+//! What reads show, as lines of JSON.
 ghost use Rattle.fb_history.specs.{Reads.{event_in, showing_in}, Records.{shown_in}};
-ghost use Rattle.serde_json.specs.Data.{string};
-ghost use Rattle.fb_messages.specs.{ReadReplies.{commit_told, counts_said, entry_said, event_said, events_said, missed_said, revision_said, showing_said, status_said, text_said, units_said, value_told}, Tokens.{IsSaid}};
-ghost use Rattle.std.specs.Prelude.{map, string_bytes};
+ghost use Rattle.fb_messages.specs.{ReadReplies.{commit_told, entry_said, event_said, events_said, revision_said, showing_said, units_said, value_told}, Replies.{count, reply_line}, Tokens.{IsSaid}};
+ghost use Rattle.serde_json.specs.{Data.{array, member, no_members, object}, View.{items_of}};
+ghost use Rattle.std.specs.Prelude.{◌≡◌, IfOk, codes, map};
 
-use crate::reply::{Refusal, kind_text, write_refused_unit};
-use crate::to_json::{ToJson, write_list, write_member, write_one_text, write_text_member};
-use fb_history::{Asked, Counts, Event, Revision, Showing};
+use crate::reply::Refusal;
+use crate::small_reply::{kind_text, line_of, missed, one_text, refused_unit, status, text_shown};
+use crate::to_json::{ToJson, write_list, write_member, written_line};
+use fb_history::{Asked, Event, Revision, Showing};
 use fb_jobs::Key;
 use fb_text::Name;
 use json::Writer;
-use std::alloc::AllocError;
-
-fn write_status(out: &mut Writer, counts: &Counts, workbench: &str) -> Result<(), AllocError>
-    ensures { IsSaid result out.old out.new (status_said counts.now workbench.now) }
-{
-    out.begin_object()?;
-    out.key("status")?;
-    write_counts(out, counts, workbench)?;
-    out.end_object()
-}
-
-fn write_counts(out: &mut Writer, counts: &Counts, workbench: &str) -> Result<(), AllocError>
-    ensures { IsSaid result out.old out.new (counts_said counts.now workbench.now) }
-{
-    out.begin_object()?;
-    write_member(out, "calls", &counts.calls)?;
-    write_member(out, "commits", &counts.commits)?;
-    write_member(out, "keys", &counts.keys)?;
-    write_member(out, "pending", &counts.pending)?;
-    write_member(out, "session", &u64::from(counts.session))?;
-    write_member(out, "units", &counts.units)?;
-    write_text_member(out, "workbench", workbench)?;
-    out.end_object()
-}
+use std::alloc::{AllocError, Global};
 
 impl ToJson for Revision {
     ghost said = { revision_said };
@@ -90,69 +68,87 @@ fn write_value(out: &mut Writer, key: &Key) -> Result<(), AllocError>
     out.end_array()
 }
 
-impl ToJson for Asked {
-    ghost said = { λ asked. entry_said (shown_in asked) };
+/// A page of a list, with the number of a call.
+#[derive(Clone, Copy)]
+struct Page<'a, T> {
+    at: u64,
+    name: &'a str,
+    items: &'a [T],
+}
+
+impl<T: ToJson> ToJson for Page<'_, T> {
+    ghost said = { λ page. object (member (codes "at") (count page.at)
+        (member page.name.now (array (items_of (map T.said page.items.now))) no_members)) };
 
     fn write(&self, out: &mut Writer) -> Result<(), AllocError> {
-        match self {
-            Asked::Value(value) => value.write(out),
-            Asked::Pending => write_one_text(out, "answer", "pending"),
-            Asked::NoSuchKey => write_one_text(out, "refused", Refusal::NoSuchKey.as_str()),
+        out.begin_object()?;
+        write_member(out, "at", &self.at)?;
+        out.key(self.name)?;
+        write_list(out, self.items)?;
+        out.end_object()
+    }
+}
+
+fn entry_line(alloc: Global, room: Vec<u8>, asked: &Asked) -> Result<Vec<u8>, AllocError>
+    ensures { IfOk result (λ line. line.items ≡ reply_line (entry_said (shown_in asked.now))) }
+{
+    match asked {
+        Asked::Value(value) => written_line(room, &**value),
+        Asked::Pending => line_of(alloc, one_text(alloc, "answer", "pending")),
+        Asked::NoSuchKey => {
+            line_of(
+                alloc,
+                one_text(alloc, "refused", Refusal::NoSuchKey.as_str()),
+            )
         }
     }
 }
 
-fn write_units(out: &mut Writer, at: u64, units: &[Revision]) -> Result<(), AllocError>
-    ensures { IsSaid result out.old out.new (units_said at units.now) }
+fn units_line(room: Vec<u8>, at: u64, units: &[Revision]) -> Result<Vec<u8>, AllocError>
+    ensures { IfOk result (λ line. line.items ≡ reply_line (units_said at units.now)) }
 {
-    out.begin_object()?;
-    write_member(out, "at", &at)?;
-    out.key("units")?;
-    write_list(out, units)?;
-    out.end_object()
+    written_line(
+        room,
+        &Page {
+            at,
+            name: "units",
+            items: units,
+        },
+    )
 }
 
-fn write_text(out: &mut Writer, at: u64, base: u64, text: &str) -> Result<(), AllocError>
-    ensures { IsSaid result out.old out.new (text_said at base text.now) }
+fn events_line(room: Vec<u8>, at: u64, events: &[Event]) -> Result<Vec<u8>, AllocError>
+    ensures { IfOk result (λ line. line.items ≡ reply_line (events_said at (map event_in events.now))) }
 {
-    out.begin_object()?;
-    write_member(out, "at", &at)?;
-    write_member(out, "base", &base)?;
-    write_text_member(out, "text", text)?;
-    out.end_object()
+    written_line(
+        room,
+        &Page {
+            at,
+            name: "events",
+            items: events,
+        },
+    )
 }
 
-fn write_events(out: &mut Writer, at: u64, events: &[Event]) -> Result<(), AllocError>
-    ensures { IsSaid result out.old out.new (events_said at (map event_in events.now)) }
+/// The line of what a read shows.
+pub(crate) fn shown_line(
+    alloc: Global,
+    room: Vec<u8>,
+    shown: &Showing,
+) -> Result<Vec<u8>, AllocError>
+    ensures { IfOk result (λ line. line.items ≡ reply_line (showing_said (showing_in shown.now))) }
 {
-    out.begin_object()?;
-    write_member(out, "at", &at)?;
-    out.key("events")?;
-    write_list(out, events)?;
-    out.end_object()
-}
-
-fn write_missed(out: &mut Writer, at: u64) -> Result<(), AllocError>
-    ensures { IsSaid result out.old out.new (missed_said at) }
-{
-    out.begin_object()?;
-    write_member(out, "at", &at)?;
-    write_member(out, "missed", &true)?;
-    out.end_object()
-}
-
-impl ToJson for Showing {
-    ghost said = { λ shown. showing_said (showing_in shown) };
-
-    fn write(&self, out: &mut Writer) -> Result<(), AllocError> {
-        match self {
-            Showing::Status { counts, workbench } => write_status(out, counts, workbench.as_str()),
-            Showing::Units { at, units } => write_units(out, *at, units),
-            Showing::Text { at, base, text } => write_text(out, *at, *base, text.as_str()),
-            Showing::NoSuchUnit(unit) => write_refused_unit(out, Refusal::NoSuchUnit, unit),
-            Showing::Entry(asked) => asked.write(out),
-            Showing::Events { at, events } => write_events(out, *at, events),
-            Showing::Missed(at) => write_missed(out, *at),
+    match shown {
+        Showing::Status { counts, workbench } => {
+            line_of(alloc, status(alloc, counts, workbench.as_str()))
         }
+        Showing::Units { at, units } => units_line(room, *at, units),
+        Showing::Text { at, base, text } => {
+            line_of(alloc, text_shown(alloc, *at, *base, text.as_str()))
+        }
+        Showing::NoSuchUnit(unit) => line_of(alloc, refused_unit(alloc, Refusal::NoSuchUnit, unit)),
+        Showing::Entry(asked) => entry_line(alloc, room, asked),
+        Showing::Events { at, events } => events_line(room, *at, events),
+        Showing::Missed(at) => line_of(alloc, missed(alloc, *at)),
     }
 }

@@ -1,15 +1,16 @@
 //! The replies, and their lines.
 ghost use Rattle.std.specs.Prelude.{◌≡◌, IfOk};
 ghost use Rattle.fb_jobs.specs.Values.{finding_of};
-ghost use Rattle.fb_messages.specs.Replies.{fault_item, job_given, kind_text, refused_base, refused_unit, reply_line, value_said, work_refused};
-ghost use Rattle.fb_messages.specs.{ReplyView.{data_of, refusal_text}, Tokens.{IsSaid}};
+ghost use Rattle.fb_messages.specs.{Replies.{fault_item, reply_line, value_said}, ReplyView.{data_of, refusal_text}};
 
-use crate::to_json::{
-    ToJson, write_member, write_one, write_one_list, write_one_text, write_text_member,
+use crate::read_reply::shown_line;
+use crate::small_reply::{
+    job, line_of, one_count, one_text, refused_unit, returned, stale_base, work_refused,
 };
+use crate::to_json::{ToJson, write_one, write_one_list, written_line};
 use fb_history::Showing;
 use fb_jobs::iface::Fault;
-use fb_jobs::{Key, Kind, Value};
+use fb_jobs::{Key, Value};
 use fb_text::Name;
 use json::Writer;
 use std::alloc::AllocError;
@@ -107,16 +108,6 @@ impl Refusal {
     }
 }
 
-pub(crate) fn kind_text(kind: Kind) -> &'static str
-    ensures { result.now ≡ kind_text kind }
-{
-    match kind {
-        Kind::Faults => "faults",
-        Kind::Net => "net",
-        Kind::Deploy => "deploy",
-    }
-}
-
 impl ToJson for Fault {
     ghost said = { fault_item };
 
@@ -141,81 +132,33 @@ impl ToJson for Value {
     }
 }
 
-fn write_stale_base(out: &mut Writer, unit: &Name, current: u64) -> Result<(), AllocError>
-    ensures { IsSaid result out.old out.new (refused_base unit.now current) }
-{
-    out.begin_object()?;
-    write_member(out, "current", &current)?;
-    write_text_member(out, "refused", "StaleBase")?;
-    write_member(out, "unit", unit)?;
-    out.end_object()
-}
-
-fn write_work_refused(out: &mut Writer, accepted: u64, refusal: Refusal) -> Result<(), AllocError>
-    ensures { IsSaid result out.old out.new (work_refused accepted (refusal_text refusal)) }
-{
-    out.begin_object()?;
-    write_member(out, "accepted", &accepted)?;
-    write_text_member(out, "refused", refusal.as_str())?;
-    out.end_object()
-}
-
-fn write_job(out: &mut Writer, number: u64, key: &Key) -> Result<(), AllocError>
-    ensures { IsSaid result out.old out.new (job_given number key.now) }
-{
-    out.begin_object()?;
-    write_member(out, "job", &number)?;
-    write_text_member(out, "kind", kind_text(key.kind))?;
-    write_member(out, "unit", &key.unit)?;
-    out.end_object()
-}
-
-pub(crate) fn write_refused_unit(
-    out: &mut Writer,
-    refusal: Refusal,
-    unit: &Name,
-) -> Result<(), AllocError>
-    ensures { IsSaid result out.old out.new (refused_unit (refusal_text refusal) unit.now) }
-{
-    out.begin_object()?;
-    write_text_member(out, "refused", refusal.as_str())?;
-    write_member(out, "unit", unit)?;
-    out.end_object()
-}
-
-impl ToJson for Reply {
-    ghost said = { data_of };
-
-    fn write(&self, out: &mut Writer) -> Result<(), AllocError> {
-        match self {
-            Reply::Committed(number) => write_one(out, "commit", number),
-            Reply::StaleBase { unit, current } => write_stale_base(out, unit, *current),
-            Reply::Pending => write_one_text(out, "answer", "pending"),
-            Reply::Found(value) => value.write(out),
-            Reply::Worked(accepted) => write_one(out, "accepted", accepted),
-            Reply::WorkRefused(accepted, refusal) => write_work_refused(out, *accepted, *refusal),
-            Reply::Job(number, key) => write_job(out, *number, key),
-            Reply::NoJob => write_one(out, "job", &0u64),
-            Reply::Delivered => write_one_text(out, "delivered", "accepted"),
-            Reply::GivenBack(was_out) => write_one(out, "returned", was_out),
-            Reply::Checkpointed(before) => write_one(out, "checkpoint", before),
-            Reply::Shown(shown) => shown.write(out),
-            Reply::Refused(refusal) => write_one_text(out, "refused", refusal.as_str()),
-            Reply::RefusedUnit(refusal, unit) => write_refused_unit(out, *refusal, unit),
-        }
-    }
-}
-
 impl Reply {
-    /// The reply's line, with its line feed, written over what `room` holds. Fails if there is no memory for it.
-    pub fn line(&self, mut room: Vec<u8>) -> Result<Vec<u8>, AllocError>
+    /// The reply's line, with its line feed. A value or a page is written over what `room` holds. Fails if there is no memory for it.
+    pub fn line(&self, room: Vec<u8>) -> Result<Vec<u8>, AllocError>
         ensures { IfOk result (λ line. line.items ≡ reply_line (data_of self.now)) }
     {
-        room.clear();
-        let mut out = Writer::new(room);
-        self.write(&mut out)?;
-        let mut line = out.into_inner();
-        line.push(b'\n')?;
-        Ok(line)
+        let alloc = *room.allocator();
+        match self {
+            Reply::Committed(number) => line_of(alloc, one_count(alloc, "commit", *number)),
+            Reply::StaleBase { unit, current } => line_of(alloc, stale_base(alloc, unit, *current)),
+            Reply::Pending => line_of(alloc, one_text(alloc, "answer", "pending")),
+            Reply::Found(value) => written_line(room, &**value),
+            Reply::Worked(accepted) => line_of(alloc, one_count(alloc, "accepted", *accepted)),
+            Reply::WorkRefused(accepted, refusal) => line_of(
+                alloc,
+                work_refused(alloc, *accepted, *refusal),
+            ),
+            Reply::Job(number, key) => line_of(alloc, job(alloc, *number, key)),
+            Reply::NoJob => line_of(alloc, one_count(alloc, "job", 0)),
+            Reply::Delivered => line_of(alloc, one_text(alloc, "delivered", "accepted")),
+            Reply::GivenBack(was_out) => line_of(alloc, returned(alloc, *was_out)),
+            Reply::Checkpointed(before) => line_of(alloc, one_count(alloc, "checkpoint", *before)),
+            Reply::Shown(shown) => shown_line(alloc, room, shown),
+            Reply::Refused(refusal) => line_of(alloc, one_text(alloc, "refused", refusal.as_str())),
+            Reply::RefusedUnit(refusal, unit) => line_of(
+                alloc,
+                refused_unit(alloc, *refusal, unit),
+            ),
+        }
     }
 }

@@ -1,13 +1,12 @@
 //! From a line to the request that it is.
-ghost use Rattle.std.specs.Prelude.{◌≡◌, IfOk, codes, drop, map, option_and_then, option_map};
+ghost use Rattle.std.specs.Prelude.{◌≡◌, IfOk, codes, map, option_and_then, option_map};
 ghost use Rattle.fb_messages.specs.Requests.{ask_in, change_in, changes_of, checkpoint_in, commit_in, deliver, give_back_in, kind_at, kind_called, member_text, number_at, peek_in, put_in, read_request, reading_by, remove_in, request_by, request_in, request_of, text_in, units_in, watch_in, work_of};
-ghost use Rattle.fb_messages.specs.{InRange.{data_in, items_in}, RequestView.{change_view, reading_view, request_view}};
+ghost use Rattle.fb_messages.specs.RequestView.{change_view, reading_view, request_view};
+ghost use Rattle.serde_json.specs.View.{items_view, view};
 
-use crate::in_range::{InRange, ItemsInRange, value_in};
 use fb_history::Limits;
 use fb_jobs::Kind;
-use json::Scratch;
-use simdutf8::basic::from_utf8;
+use serde_json::Value;
 use std::alloc::{AllocError, Global};
 
 /// A change of a commit, before its name is read. It lends its texts from the line.
@@ -61,14 +60,14 @@ impl Drop for Request<'_> {
     }
 }
 
-fn member_text<'a>(value: &InRange<'_, 'a>, name: &str) -> Option<&'a str>
-    ensures { option_map (λ s. s.now) result ≡ member_text name.now (data_in value.now.value.now) }
+fn member_text<'a>(value: &'a Value, name: &str) -> Option<&'a str>
+    ensures { option_map (λ s. s.now) result ≡ member_text name.now (view value.now) }
 {
     value.get(name)?.as_str()
 }
 
-fn number_at(value: &InRange<'_, '_>, name: &str) -> Option<u64>
-    ensures { result ≡ number_at name.now (data_in value.now.value.now) }
+fn number_at(value: &Value, name: &str) -> Option<u64>
+    ensures { result ≡ number_at name.now (view value.now) }
 {
     value.get(name)?.as_u64()
 }
@@ -87,14 +86,14 @@ fn kind_called(text: &str) -> Option<Kind>
     }
 }
 
-fn kind_at(value: &InRange<'_, '_>, name: &str) -> Option<Kind>
-    ensures { result ≡ kind_at name.now (data_in value.now.value.now) }
+fn kind_at(value: &Value, name: &str) -> Option<Kind>
+    ensures { result ≡ kind_at name.now (view value.now) }
 {
     kind_called(member_text(value, name)?)
 }
 
-fn put_in<'a>(value: &InRange<'_, 'a>) -> Option<AskedChange<'a>>
-    ensures { option_map change_view result ≡ put_in (data_in value.now.value.now) }
+fn put_in<'a>(value: &'a Value) -> Option<AskedChange<'a>>
+    ensures { option_map change_view result ≡ put_in (view value.now) }
 {
     let unit = member_text(value, "put")?;
     let base = number_at(value, "base")?;
@@ -102,8 +101,8 @@ fn put_in<'a>(value: &InRange<'_, 'a>) -> Option<AskedChange<'a>>
     Some(AskedChange::Put { unit, base, text })
 }
 
-fn remove_in<'a>(value: &InRange<'_, 'a>) -> Option<AskedChange<'a>>
-    ensures { option_map change_view result ≡ remove_in (data_in value.now.value.now) }
+fn remove_in<'a>(value: &'a Value) -> Option<AskedChange<'a>>
+    ensures { option_map change_view result ≡ remove_in (view value.now) }
 {
     let unit = member_text(value, "remove")?;
     let base = number_at(value, "base")?;
@@ -111,8 +110,8 @@ fn remove_in<'a>(value: &InRange<'_, 'a>) -> Option<AskedChange<'a>>
 }
 
 /// A change has one of `put` and `remove`.
-fn change_in<'a>(value: &InRange<'_, 'a>) -> Option<AskedChange<'a>>
-    ensures { option_map change_view result ≡ change_in (data_in value.now.value.now) }
+fn change_in<'a>(value: &'a Value) -> Option<AskedChange<'a>>
+    ensures { option_map change_view result ≡ change_in (view value.now) }
 {
     match (value.get("put"), value.get("remove")) {
         (Some(_), None) => put_in(value),
@@ -124,15 +123,15 @@ fn change_in<'a>(value: &InRange<'_, 'a>) -> Option<AskedChange<'a>>
 #[tactic(auto, using(crate::proofs::Changes::no_more, crate::proofs::Changes::one_more_change, crate::proofs::Changes::one_no_change, crate::proofs::Changes::last_change))]
 fn changes_of<'a>(
     alloc: Global,
-    mut values: ItemsInRange<'_, 'a>,
+    values: &'a [Value],
 ) -> Result<Option<Vec<AskedChange<'a>>>, AllocError>
     ensures { IfOk result
         (λ found. option_map (λ changes. map change_view changes.items) found
-        ≡ changes_of (items_in (drop values.entry.at values.entry.items.now))) }
+        ≡ changes_of (items_view values.now)) }
 {
     let mut changes = Vec::new(alloc);
-    while let Some(value) = values.next() {
-        match change_in(&value) {
+    for value in values {
+        match change_in(value) {
             Some(change) => changes.push(change)?,
             None => return Ok(None),
         }
@@ -140,13 +139,13 @@ fn changes_of<'a>(
     Ok(Some(changes))
 }
 
-fn commit_in<'a>(alloc: Global, value: &InRange<'_, 'a>) -> Result<Option<Request<'a>>, AllocError>
-    ensures { IfOk result (λ found. option_map request_view found ≡ commit_in (data_in value.now.value.now)) }
+fn commit_in<'a>(alloc: Global, value: &'a Value) -> Result<Option<Request<'a>>, AllocError>
+    ensures { IfOk result (λ found. option_map request_view found ≡ commit_in (view value.now)) }
 {
     let Some(changes) = value.get("changes") else {
         return Ok(None);
     };
-    let Some(values) = changes.items() else {
+    let Some(values) = changes.as_array() else {
         return Ok(None);
     };
     match changes_of(alloc, values)? {
@@ -155,16 +154,16 @@ fn commit_in<'a>(alloc: Global, value: &InRange<'_, 'a>) -> Result<Option<Reques
     }
 }
 
-fn ask_in<'a>(value: &InRange<'_, 'a>) -> Option<Request<'a>>
-    ensures { option_map request_view result ≡ ask_in (data_in value.now.value.now) }
+fn ask_in<'a>(value: &'a Value) -> Option<Request<'a>>
+    ensures { option_map request_view result ≡ ask_in (view value.now) }
 {
     let kind = kind_at(value, "kind")?;
     let unit = member_text(value, "unit")?;
     Some(Request::Ask { kind, unit })
 }
 
-fn give_back_in<'a>(value: &InRange<'_, 'a>) -> Option<Request<'a>>
-    ensures { option_map request_view result ≡ give_back_in (data_in value.now.value.now) }
+fn give_back_in<'a>(value: &'a Value) -> Option<Request<'a>>
+    ensures { option_map request_view result ≡ give_back_in (view value.now) }
 {
     let kind = kind_at(value, "kind")?;
     let unit = member_text(value, "unit")?;
@@ -174,9 +173,9 @@ fn give_back_in<'a>(value: &InRange<'_, 'a>) -> Option<Request<'a>>
 /// How many turns one request for work has at most.
 const MOST_TURNS: u64 = 1_000;
 
-fn work_in<'a>(value: &InRange<'_, 'a>) -> Option<Request<'a>>
+fn work_in<'a>(value: &'a Value) -> Option<Request<'a>>
     ensures { option_map request_view result
-        ≡ option_and_then work_of (number_at (codes "turns") (data_in value.now.value.now)) }
+        ≡ option_and_then work_of (number_at (codes "turns") (view value.now)) }
 {
     let turns = number_at(value, "turns")?;
     if 1 <= turns && turns <= MOST_TURNS {
@@ -186,15 +185,15 @@ fn work_in<'a>(value: &InRange<'_, 'a>) -> Option<Request<'a>>
     }
 }
 
-fn deliver_in<'a>(value: &InRange<'_, 'a>) -> Option<Request<'a>>
+fn deliver_in<'a>(value: &'a Value) -> Option<Request<'a>>
     ensures { option_map request_view result
-        ≡ option_map deliver (number_at (codes "job") (data_in value.now.value.now)) }
+        ≡ option_map deliver (number_at (codes "job") (view value.now)) }
 {
     Some(Request::Deliver(number_at(value, "job")?))
 }
 
-fn checkpoint_in<'a>(value: &InRange<'_, 'a>) -> Option<Request<'a>>
-    ensures { option_map request_view result ≡ checkpoint_in (data_in value.now.value.now) }
+fn checkpoint_in<'a>(value: &'a Value) -> Option<Request<'a>>
+    ensures { option_map request_view result ≡ checkpoint_in (view value.now) }
 {
     let units = number_at(value, "units")?;
     let history = number_at(value, "history")?;
@@ -203,8 +202,8 @@ fn checkpoint_in<'a>(value: &InRange<'_, 'a>) -> Option<Request<'a>>
 }
 
 /// The units are all, or those after one.
-fn units_in<'a>(value: &InRange<'_, 'a>) -> Option<AskedReading<'a>>
-    ensures { option_map reading_view result ≡ units_in (data_in value.now.value.now) }
+fn units_in<'a>(value: &'a Value) -> Option<AskedReading<'a>>
+    ensures { option_map reading_view result ≡ units_in (view value.now) }
 {
     match value.get("after") {
         None => Some(AskedReading::Units(None)),
@@ -212,14 +211,14 @@ fn units_in<'a>(value: &InRange<'_, 'a>) -> Option<AskedReading<'a>>
     }
 }
 
-fn text_in<'a>(value: &InRange<'_, 'a>) -> Option<AskedReading<'a>>
-    ensures { option_map reading_view result ≡ text_in (data_in value.now.value.now) }
+fn text_in<'a>(value: &'a Value) -> Option<AskedReading<'a>>
+    ensures { option_map reading_view result ≡ text_in (view value.now) }
 {
     Some(AskedReading::Text(member_text(value, "unit")?))
 }
 
-fn peek_in<'a>(value: &InRange<'_, 'a>) -> Option<AskedReading<'a>>
-    ensures { option_map reading_view result ≡ peek_in (data_in value.now.value.now) }
+fn peek_in<'a>(value: &'a Value) -> Option<AskedReading<'a>>
+    ensures { option_map reading_view result ≡ peek_in (view value.now) }
 {
     let kind = kind_at(value, "kind")?;
     let unit = member_text(value, "unit")?;
@@ -229,8 +228,8 @@ fn peek_in<'a>(value: &InRange<'_, 'a>) -> Option<AskedReading<'a>>
 /// How many milliseconds a watch waits at most.
 const MOST_WAIT: u64 = 30_000;
 
-fn watch_in<'a>(value: &InRange<'_, 'a>) -> Option<AskedReading<'a>>
-    ensures { option_map reading_view result ≡ watch_in (data_in value.now.value.now) }
+fn watch_in<'a>(value: &'a Value) -> Option<AskedReading<'a>>
+    ensures { option_map reading_view result ≡ watch_in (view value.now) }
 {
     let after = number_at(value, "after")?;
     let wait = number_at(value, "wait")?;
@@ -241,9 +240,9 @@ fn watch_in<'a>(value: &InRange<'_, 'a>) -> Option<AskedReading<'a>>
     }
 }
 
-fn reading_by<'a>(op: &str, value: &InRange<'_, 'a>) -> Option<AskedReading<'a>>
+fn reading_by<'a>(op: &str, value: &'a Value) -> Option<AskedReading<'a>>
     ensures { option_map reading_view result
-        ≡ reading_by op.now (data_in value.now.value.now) }
+        ≡ reading_by op.now (view value.now) }
 {
     if op == "status" {
         Some(AskedReading::Status)
@@ -260,9 +259,9 @@ fn reading_by<'a>(op: &str, value: &InRange<'_, 'a>) -> Option<AskedReading<'a>>
     }
 }
 
-fn read_in<'a>(op: &str, value: &InRange<'_, 'a>) -> Option<Request<'a>>
+fn read_in<'a>(op: &str, value: &'a Value) -> Option<Request<'a>>
     ensures { option_map request_view result
-        ≡ option_map read_request (reading_by op.now (data_in value.now.value.now)) }
+        ≡ option_map read_request (reading_by op.now (view value.now)) }
 {
     Some(Request::Read(reading_by(op, value)?))
 }
@@ -271,11 +270,11 @@ fn request_by<'a>(
     alloc: Global,
     has_reads: bool,
     op: &str,
-    value: &InRange<'_, 'a>,
+    value: &'a Value,
 ) -> Result<Option<Request<'a>>, AllocError>
     ensures { IfOk result
         (λ found. option_map request_view found
-        ≡ request_by has_reads op.now (data_in value.now.value.now)) }
+        ≡ request_by has_reads op.now (view value.now)) }
 {
     if op == "commit" {
         commit_in(alloc, value)
@@ -304,10 +303,10 @@ fn request_by<'a>(
 fn request_of_value<'a>(
     alloc: Global,
     has_reads: bool,
-    value: &InRange<'_, 'a>,
+    value: &'a Value,
 ) -> Result<Option<Request<'a>>, AllocError>
     ensures { IfOk result
-        (λ found. option_map request_view found ≡ request_in has_reads (data_in value.now.value.now)) }
+        (λ found. option_map request_view found ≡ request_in has_reads (view value.now)) }
 {
     match member_text(value, "op") {
         None => Ok(None),
@@ -315,25 +314,24 @@ fn request_of_value<'a>(
     }
 }
 
-/// The request that a line is, or None; a read only if there are reads. It lends its texts from the line, or from `scratch` if they have escapes. Fails if
-/// there is no memory for the values in it.
+/// The request that a line is, or None; a read only if there are reads. The line is read into `read`, from which the request lends its texts. Fails if there is
+/// no memory for the values in it.
+#[tactic(auto, using(crate::proofs::RequestReads::request_of_read, crate::proofs::RequestReads::request_of_unread))]
 pub fn request_in<'a>(
     alloc: Global,
     has_reads: bool,
-    line: &'a [u8],
-    scratch: &'a mut Scratch,
+    line: &[u8],
+    read: &'a mut Value,
 ) -> Result<Option<Request<'a>>, AllocError>
     ensures { IfOk result
         (λ found. option_map request_view found ≡ request_of has_reads line.now) }
 {
-    let Ok(text) = from_utf8(line) else {
-        return Ok(None);
-    };
-    let Some(value) = value_in(alloc, text, scratch)? else {
-        return Ok(None);
-    };
-    match InRange::of(&value) {
-        None => Ok(None),
-        Some(in_range) => request_of_value(alloc, has_reads, &in_range),
+    match Value::from_slice(alloc, line) {
+        Ok(value) => {
+            *read = value;
+            request_of_value(alloc, has_reads, read)
+        }
+        Err(error) if error.is_memory() => Err(AllocError),
+        Err(_) => Ok(None),
     }
 }

@@ -1,8 +1,8 @@
-//! What is written as JSON, token by token. The writer places the quotes, the colons and the commas.
-//! A reply is defined as the text of a JSON value (`reply_line`). Such a value in the code would cost a `String` for each path of a network.
-ghost use Rattle.std.specs.Prelude.{map};
-ghost use Rattle.serde_json.specs.{Data.{Data, array, boolean, string}, View.{items_of}};
-ghost use Rattle.fb_messages.specs.{DeployReplies.{two}, NetReplies.{three}, Replies.{count, one_member}, Tokens.{IsMember, IsSaid}};
+//! What can be long is written as JSON token by token. The writer places the quotes, the colons and the commas.
+//! A reply is defined as the text of a JSON value (`reply_line`). For a network such a value in the code would cost a `String` for each path.
+ghost use Rattle.std.specs.Prelude.{◌≡◌, IfOk, map};
+ghost use Rattle.serde_json.specs.{Data.{Data, array, string}, View.{items_of}};
+ghost use Rattle.fb_messages.specs.{DeployReplies.{two}, NetReplies.{three}, Replies.{count, one_member, reply_line}, Tokens.{IsMember, IsSaid}};
 
 use fb_text::Name;
 use json::Writer;
@@ -21,14 +21,6 @@ impl ToJson for u64 {
 
     fn write(&self, out: &mut Writer) -> Result<(), AllocError> {
         out.u64(*self)
-    }
-}
-
-impl ToJson for bool {
-    ghost said = { boolean };
-
-    fn write(&self, out: &mut Writer) -> Result<(), AllocError> {
-        out.boolean(*self)
     }
 }
 
@@ -85,29 +77,12 @@ pub fn write_member<T: ToJson>(out: &mut Writer, name: &str, value: &T) -> Resul
     value.write(out)
 }
 
-/// A member that is a text.
-pub fn write_text_member(out: &mut Writer, name: &str, text: &str) -> Result<(), AllocError>
-    ensures { IsMember result out.old out.new name.now (string text.now) }
-{
-    out.key(name)?;
-    out.string(text)
-}
-
 /// An object with one member.
 pub fn write_one<T: ToJson>(out: &mut Writer, name: &str, value: &T) -> Result<(), AllocError>
     ensures { IsSaid result out.old out.new (one_member name.now (T.said value.now)) }
 {
     out.begin_object()?;
     write_member(out, name, value)?;
-    out.end_object()
-}
-
-/// An object with one member, a text.
-pub fn write_one_text(out: &mut Writer, name: &str, text: &str) -> Result<(), AllocError>
-    ensures { IsSaid result out.old out.new (one_member name.now (string text.now)) }
-{
-    out.begin_object()?;
-    write_text_member(out, name, text)?;
     out.end_object()
 }
 
@@ -124,4 +99,16 @@ pub fn write_one_list<T: ToJson>(
     out.key(name)?;
     write_list(out, items)?;
     out.end_object()
+}
+
+/// The line of what is written as JSON, with its line feed, written over what `room` holds.
+pub fn written_line<T: ToJson>(mut room: Vec<u8>, it: &T) -> Result<Vec<u8>, AllocError>
+    ensures { IfOk result (λ line. line.items ≡ reply_line (T.said it.now)) }
+{
+    room.clear();
+    let mut out = Writer::new(room);
+    it.write(&mut out)?;
+    let mut line = out.into_inner();
+    line.push(b'\n')?;
+    Ok(line)
 }

@@ -9,8 +9,9 @@ use crate::answer::answer;
 use crate::end::RunEnd;
 use fb_bench::Desk;
 use fb_messages::jobs::Job;
-use fb_messages::{Reply, Scratch, request_in};
+use fb_messages::{Reply, request_in};
 use fb_streams::{Sink, StreamError};
+use serde_json::Value;
 use std::alloc::{AllocError, Global};
 use std::mem;
 
@@ -26,14 +27,14 @@ fn answer_line<D: Desk>(
     alloc: Global,
     desk: &mut D,
     held: &mut Vec<Job>,
-    scratch: &mut Scratch,
     line: &[u8],
 ) -> Result<Reply, AllocError>
     ensures { Progress (Exchanges D.step D.checkpoint_step D.read_step)
         (plan_of held.old.items (request_of D.has_reads line.now)) desk.old result held.new.items desk.new }
 {
     let has_reads = desk.answers_reads();
-    let request = request_in(alloc, has_reads, line, scratch)?;
+    let mut read = Value::Null;
+    let request = request_in(alloc, has_reads, line, &mut read)?;
     answer(alloc, desk, held, &request)
 }
 
@@ -59,8 +60,6 @@ pub fn write_all<S: Sink>(writer: &mut S, bytes: &[u8]) -> Result<(), StreamErro
 pub(crate) struct Conversation {
     /// The jobs that were taken, in the order of their numbers.
     pub(crate) held: Vec<Job>,
-    /// Room for the texts of a line that have escapes.
-    scratch: Scratch,
     /// The bytes of a reply, which the next one takes over.
     room: Vec<u8>,
     /// What was read of the next line.
@@ -74,7 +73,6 @@ impl Conversation {
     {
         Conversation {
             held: Vec::new(alloc),
-            scratch: Scratch::new(alloc),
             room: Vec::new(alloc),
             line: Vec::new(alloc),
         }
@@ -99,13 +97,7 @@ pub(crate) fn say_line<D: Desk, S: Sink>(
     if is_blank(&conversation.line) {
         return Ok(());
     }
-    let Ok(reply) = answer_line(
-        alloc,
-        desk,
-        &mut conversation.held,
-        &mut conversation.scratch,
-        &conversation.line,
-    ) else {
+    let Ok(reply) = answer_line(alloc, desk, &mut conversation.held, &conversation.line) else {
         return Err(RunEnd::Memory);
     };
     let room = mem::replace(&mut conversation.room, Vec::new(alloc));
