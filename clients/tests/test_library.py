@@ -316,11 +316,9 @@ class HostTest(InFolder):
                     Session.connect("127.0.0.1", port, secret=wrong)
 
     def test_a_secret_that_nobody_asks_for(self):
-        with hosting() as port:
-            with self.assertRaisesRegex(NotLetIn, "closed the connection before it answered: the secret may be wrong, or the host has none$"):
-                Session.connect("127.0.0.1", port, secret="open sesame")
-            with Session.connect("127.0.0.1", port) as session:
-                self.assertEqual(session.commit([Put("A", 0, A)]), 1)
+        with hosting() as port, Session.connect("127.0.0.1", port, secret="open sesame") as session:
+            self.assertEqual(session.commit([Put("A", 0, A)]), 1)
+            self.assertEqual(session.revision("A"), 1)
 
     def test_all_sessions_are_in_use(self):
         with hosting("--sessions", "1") as port:

@@ -221,7 +221,7 @@ class ConnectionTest(TeamTest):
             editor.await_codes(a=[])
             editor = self.connected(port, "--secret", wrong)
             editor.open(file)
-            self.assertRegex(editor.await_message(), ": the secret may be wrong, or the host has none; trying again$")
+            self.assertRegex(editor.await_message(), ": the secret may be wrong; trying again$")
 
     def test_a_full_history_costs_no_session(self) -> None:
         file = self.write("a.fb", BAD)

@@ -773,7 +773,7 @@ class Session:
             if self._greeted() == "BadRequest" and secret is not None:
                 self._greeted()  # The line of a secret that this server does not ask for was refused.
         except ConnectionEnded as error:
-            raise NotLetIn(f"{error}: {'it may require a secret' if secret is None else 'the secret may be wrong, or the host has none'}") from error
+            raise NotLetIn(f"{error}: {'it may require a secret' if secret is None else 'the secret may be wrong'}") from error
 
     def _greeted(self) -> str:
         """How the next reply refuses."""

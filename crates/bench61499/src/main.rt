@@ -1,7 +1,7 @@
 //! The program `bench61499`: a workbench for IEC 61499 units that answers requests, one on each line.
 #![tactic(auto)]
 
-use fb_host::{FIRST_LINE_TIMEOUT, HostConfig, Identity, KEY_TIMEOUT, host_on};
+use fb_host::{FIRST_LINE_TIMEOUT, HostConfig, Identity, host_on};
 use fb_program::wire::{FromRead, IntoWrite};
 use fb_program::{
     HostSettings, Outcome, ServerSettings, refuse_file, refuse_port, refuse_secret, refuse_words,
@@ -134,7 +134,6 @@ fn main(rt: HostRuntime) -> ExitCode {
                 limits,
                 first_line_timeout: FIRST_LINE_TIMEOUT,
                 idle_timeout: idle.saturating_mul(MINUTE),
-                key_timeout: KEY_TIMEOUT,
                 connections,
                 workbench,
             };

@@ -1,14 +1,14 @@
 -- What a connection sends first.
-use Rattle.std.specs.Prelude.{◌≡◌, ◌==◌, ◌||◌, ℕ, Bool, List, Some, not, slice_get}
-use Rattle.std.specs.List.{position}
+use Rattle.std.specs.Prelude.{◌≡◌, ◌≤◌, ◌<◌, ℕ, List, length, slice_index_or}
 
--- a space, a tab, or an end of a line
-abbrev pub is_blank : ℕ → Bool
-is_blank byte = (byte == 32) || ((byte == 9) || ((byte == 10) || (byte == 13)))
+-- a letter from A to Z
+abbrev pub IsCapital : ℕ → Type 0
+IsCapital byte = (65 ≤ byte) × (byte ≤ 90)
 
-abbrev pub is_mark : ℕ → Bool
-is_mark byte = not (is_blank byte)
+-- a word of this number of capitals, and a blank after it
+abbrev pub IsWordOf : ℕ → List ℕ → Type 0
+IsWordOf n bytes = (n < length bytes) × (slice_index_or bytes n 0 ≡ 32) × ((k : ℕ) → k < n → IsCapital (slice_index_or bytes k 0))
 
--- the first byte that is no blank is a {
-abbrev pub BeginsRequest : List ℕ → Type 0
-BeginsRequest bytes = (n : ℕ) × (position is_mark bytes ≡ Some n) × (slice_get bytes n ≡ Some 123)
+-- how a request of HTTP begins
+abbrev pub SpeaksHttp : List ℕ → Type 0
+SpeaksHttp bytes = (n : ℕ) × (1 ≤ n) × IsWordOf n bytes

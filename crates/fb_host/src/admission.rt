@@ -1,8 +1,7 @@
 //! Admission: the first line of a connection, and whether it gets a seat.
-ghost use Rattle.std.specs.Prelude.{◌≤◌, IfSome, length};
-
 use crate::connection::Connection;
-use crate::head::{begins_request, first_mark, is_secret};
+use crate::connection_queue::ConnectionQueue;
+use crate::head::{is_secret, speaks_http};
 use crate::threads::HostState;
 use std::io::{Read, Write};
 use std::net::{Shutdown, TcpStream};
@@ -17,32 +16,19 @@ const NO_SEAT: &[u8] = b"{\"refused\":\"NoSeat\"}\n";
 /// How many milliseconds a connection that is refused may take to read why.
 const REFUSAL_TIMEOUT: u64 = 200;
 
-/// How often it is read from a connection that is refused, so that nothing unread takes the answer away.
-const REFUSAL_READS: u32 = 64;
-
-/// Why a connection gets no seat.
-#[derive(Clone, Copy, PartialEq, Eq)]
-enum Turned {
-    /// Its first line did not come in time, or it had to give way.
-    Late,
-    /// Its first line is not the secret.
-    WrongSecret,
-    /// It does not begin with a request.
-    Foreign,
-    /// No seat is free.
-    NoSeat,
-}
-
 /// A thread of admission: it looks at the first lines of connections, one after another.
 pub(crate) fn admit_connections<R: Wait + Clock>(rt: &R, host: &HostState, secret: &[u8]) {
     for _ in rt.forever() {
         let Some(connection) = host.admission.next(rt) else {
             return;
         };
-        if let Err(turned) = admit(rt, connection, host, secret) {
-            host.notices
-                .count_turned_away(rt, turned == Turned::WrongSecret);
-        }
+        admit(
+            rt,
+            connection,
+            &host.seats,
+            secret,
+            Duration::from_millis(host.first_line_timeout),
+        );
         host.admission.add_idle(rt);
     }
     // `forever` never ends.
@@ -53,60 +39,42 @@ pub(crate) fn admit_connections<R: Wait + Clock>(rt: &R, host: &HostState, secre
 fn admit<R: Wait + Clock>(
     rt: &R,
     connection: Connection,
-    host: &HostState,
+    seats: &ConnectionQueue,
     secret: &[u8],
-) -> Result<(), Turned> {
+    first_line_timeout: Duration,
+) {
     let mut connection = connection;
-    if secret.is_empty() && !host.seats.has_idle(rt) {
-        host.waiting.leave(rt, connection.number);
-        refuse(rt, &connection.stream);
-        return Err(Turned::NoSeat);
+    if secret.is_empty() && !seats.has_idle(rt) {
+        refuse(&connection.stream);
+        return;
     }
-    let has_head = has_head(rt, &mut connection, host, secret);
-    let has_stayed = host.waiting.leave(rt, connection.number);
-    if !has_head || !has_stayed {
-        return Err(Turned::Late);
+    if !has_head(rt, &mut connection, first_line_timeout) {
+        return;
     }
-    takes_head(&mut connection.head, secret)?;
-    if let Some(connection) = host.seats.offer(rt, connection) {
-        refuse(rt, &connection.stream);
-        return Err(Turned::NoSeat);
+    if !is_admitted(&mut connection.head, secret) {
+        return;
     }
-    Ok(())
+    if let Some(connection) = seats.offer(rt, connection) {
+        refuse(&connection.stream);
+    }
 }
 
-/// Whether the head lets the connection in: by the secret in its first line, which is then taken off, or, if there is none, by how its first request begins.
-fn takes_head(head: &mut Vec<u8>, secret: &[u8]) -> Result<(), Turned> {
+/// Whether the head is admitted: by the secret in its first line, or, if there is none, since it is not HTTP.
+fn is_admitted(head: &mut Vec<u8>, secret: &[u8]) -> bool {
     if secret.is_empty() {
-        return if begins_request(head) {
-            Ok(())
-        } else {
-            Err(Turned::Foreign)
-        };
+        return !speaks_http(head);
     }
-    if takes_secret(head, secret) {
-        Ok(())
-    } else {
-        Err(Turned::WrongSecret)
-    }
+    takes_secret(head, secret)
 }
 
-/// Says that there is no seat, and reads what the peer has still sent.
-fn refuse<R: Clock>(rt: &R, stream: &TcpStream) {
+/// Says that there is no seat.
+fn refuse(stream: &TcpStream) {
     let mut out = stream;
     let _ = out.write_all(NO_SEAT);
     let _ = stream.shutdown(Shutdown::Write);
-    let Ok(begun) = Instant::now(rt) else {
-        return;
-    };
+    let _ = stream.set_read_timeout(Some(Duration::from_millis(REFUSAL_TIMEOUT)));
     let mut rest = [0; 1_024];
-    for _ in 0..REFUSAL_READS {
-        let timeout = Duration::from_millis(REFUSAL_TIMEOUT);
-        match read_until(rt, stream, begun, timeout, &mut rest) {
-            Some(0) | None => return,
-            Some(_) => {}
-        }
-    }
+    let _ = out.read(&mut rest);
 }
 
 /// Whether the head's first line is the secret. It is then taken off.
@@ -121,82 +89,46 @@ fn takes_secret(head: &mut Vec<u8>, secret: &[u8]) -> bool {
     true
 }
 
-/// Whether enough has come to judge the connection: its first line, or, if there is no secret, the line of its first request, or another first byte.
-fn is_enough(head: &[u8], secret: &[u8]) -> bool {
-    if FIRST_LINE_SIZE <= head.len() {
-        return true;
-    }
-    if !secret.is_empty() {
-        return head.contains(&b'\n');
-    }
-    match first_mark(head) {
-        Some(place) => {
-            !begins_request(head) || head.iter().skip(place).any(|byte| *byte == b'\n')
-        }
-        None => false,
-    }
-}
-
-/// Reads until enough has come, the input ends, or `FIRST_LINE_SIZE` bytes have come. False if none of these came in time.
-fn has_head<R: Wait + Clock>(
-    rt: &R,
-    connection: &mut Connection,
-    host: &HostState,
-    secret: &[u8],
-) -> bool {
+/// Reads until the first line, the end of the input or `FIRST_LINE_SIZE` bytes have come. False if none of these came in time.
+fn has_head<R: Clock>(rt: &R, connection: &mut Connection, first_line_timeout: Duration) -> bool {
     let Ok(begun) = Instant::now(rt) else {
         return false;
     };
-    let timeout = Duration::from_millis(host.first_line_timeout);
     let mut buffer = [0; 1_024];
     for _ in 0..FIRST_LINE_SIZE {
-        if is_enough(&connection.head, secret) {
+        if connection.head.contains(&b'\n') || FIRST_LINE_SIZE <= connection.head.len() {
             return true;
         }
-        match read_head(rt, connection, begun, timeout, &mut buffer) {
+        match read_within(rt, connection, begun, first_line_timeout, &mut buffer) {
             Some(0) => return true,
-            Some(_) => host.waiting.begin(rt, connection.number),
+            Some(_) => {}
             None => return false,
         }
     }
     false
 }
 
-/// Reads once into the head, if there is time left.
-fn read_head<R: Clock>(
+/// Reads once, if there is time left.
+fn read_within<R: Clock>(
     rt: &R,
     connection: &mut Connection,
     begun: Instant,
-    timeout: Duration,
+    first_line_timeout: Duration,
     buffer: &mut [u8],
 ) -> Option<usize> {
-    let count = read_until(rt, &connection.stream, begun, timeout, buffer)?;
+    let Ok(passed) = begun.elapsed(rt) else {
+        return None;
+    };
+    let left = first_line_timeout.saturating_sub(passed);
+    if left.is_zero() || connection.stream.set_read_timeout(Some(left)).is_err() {
+        return None;
+    }
+    let mut stream = &connection.stream;
+    let Ok(count) = stream.read(buffer) else {
+        return None;
+    };
     match connection.head.extend_from_slice(&buffer[..count]) {
         Ok(()) => Some(count),
         Err(_) => None,
     }
-}
-
-/// Reads once, if not all of the time since then has passed.
-fn read_until<R: Clock>(
-    rt: &R,
-    stream: &TcpStream,
-    begun: Instant,
-    timeout: Duration,
-    buffer: &mut [u8],
-) -> Option<usize>
-    ensures { IfSome result (λ count. count ≤ length buffer.new) }
-{
-    let Ok(passed) = begun.elapsed(rt) else {
-        return None;
-    };
-    let left = timeout.saturating_sub(passed);
-    if left.is_zero() || stream.set_read_timeout(Some(left)).is_err() {
-        return None;
-    }
-    let mut stream = stream;
-    let Ok(count) = stream.read(buffer) else {
-        return None;
-    };
-    Some(count)
 }

@@ -4,19 +4,17 @@ use std::io;
 use std::io::{ErrorKind, Read};
 use std::net::TcpStream;
 
-/// A connection, its number in the waiting room, and the bytes that were read of it and not yet passed on.
+/// A connection, and the bytes that were read of it and not yet passed on.
 #[derive(Drop)]
 pub(crate) struct Connection {
     pub(crate) stream: TcpStream,
-    pub(crate) number: u64,
     pub(crate) head: Vec<u8>,
 }
 
 impl Connection {
-    pub(crate) fn new(alloc: Global, stream: TcpStream, number: u64) -> Connection {
+    pub(crate) fn new(alloc: Global, stream: TcpStream) -> Connection {
         Connection {
             stream,
-            number,
             head: Vec::new(alloc),
         }
     }

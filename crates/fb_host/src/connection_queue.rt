@@ -5,12 +5,10 @@ use crate::connection::Connection;
 use std::alloc::Global;
 use std::sync::{Condvar, Mutex, Wait};
 
-/// Connections for threads that wait for them. One is taken in only if a thread is free, so it never holds more than there are threads. `freed` wakes who
-/// waits for a free thread.
+/// Connections for threads that wait for them. One is taken in only if a thread is free, so it never holds more than there are threads.
 pub(crate) struct ConnectionQueue {
     state: Mutex<QueueState>,
     changed: Condvar,
-    freed: Condvar,
 }
 
 impl Drop for ConnectionQueue {
@@ -18,7 +16,6 @@ impl Drop for ConnectionQueue {
         let Self {
             state: _,
             changed: _,
-            freed: _,
         } = self;
     }
 }
@@ -65,7 +62,6 @@ impl ConnectionQueue {
         ConnectionQueue {
             state: Mutex::new(waiting),
             changed: Condvar::new(),
-            freed: Condvar::new(),
         }
     }
 
@@ -86,13 +82,6 @@ impl ConnectionQueue {
     /// A thread that had a connection is free again.
     pub(crate) fn add_idle<R: Wait>(&self, rt: &R) {
         self.state.lock(rt).add_idle();
-        self.freed.notify_all();
-    }
-
-    /// Waits until a thread is free.
-    pub(crate) fn wait_idle<R: Wait>(&self, rt: &R) {
-        let state = self.state.lock(rt);
-        drop(self.freed.wait_while(rt, state, |state| state.idle == 0));
     }
 
     /// Waits for a connection. None if no further one comes.

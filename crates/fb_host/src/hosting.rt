@@ -5,11 +5,8 @@ ghost use Rattle.fb_serve.specs.{Lines.{SaysLines}, Shown.{ShowsAll}};
 
 use crate::close::close;
 use crate::connection_queue::ConnectionQueue;
-use crate::leases::Leases;
-use crate::notices::Notices;
 use crate::receipt_store::ReceiptStore;
-use crate::threads::{ADMISSION_THREADS, HostState, Seats, run_threads};
-use crate::waiting_room::WaitingRoom;
+use crate::threads::{ADMISSION_THREADS, HostState, run_threads};
 use fb_serve::{Ended, NotServed, Served, greet};
 use fb_shared::Shared;
 use fb_shared::bench::Identity;
@@ -25,9 +22,6 @@ use std::time::Clock;
 /// How many milliseconds a connection may take to send its first line.
 pub const FIRST_LINE_TIMEOUT: u64 = 10_000;
 
-/// How many milliseconds a session may keep a key that it has taken.
-pub const KEY_TIMEOUT: u64 = 60_000;
-
 /// How many callers of each sort a host has, the limits of its workbench (`history` is the number of calls of an epoch), and whom it admits.
 #[derive(Clone, Copy)]
 pub struct HostConfig {
@@ -38,17 +32,14 @@ pub struct HostConfig {
     pub first_line_timeout: u64,
     /// How many milliseconds a session may be silent, or 0 if it may be so forever.
     pub idle_timeout: u64,
-    /// After how many milliseconds a key that a session has taken is given back.
-    pub key_timeout: u64,
     /// After how many connections it closes.
     pub connections: u64,
     /// The identity of the workbench, by which a client notices that the host was started again.
     pub workbench: Identity,
 }
 
-/// Gives each connection a free seat, if its first line is the secret, or if no secret is set and it begins with a request, with workers beside the sessions.
-/// After `config.connections` connections it closes, once all sessions have ended. A fault of a session is printed on `errors` soon. The seats are those of
-/// the sessions, then those of the workers, and last the one that gives back keys which sessions keep.
+/// Gives each connection a free seat, if its first line is the secret or no secret is set, with workers beside the sessions. After `config.connections`
+/// connections it closes, once all sessions have ended. A fault of a session is printed on `errors` at once.
 fn host_sessions<R: Threads + Wait + Clock + Sync, E: Write + Send>(
     rt: &R,
     alloc: Global,
@@ -61,39 +52,25 @@ fn host_sessions<R: Threads + Wait + Clock + Sync, E: Write + Send>(
     ensures all { IfOk result
         (λ served. ShowsAll served.closed.bench served.receipts.items) }
     ensures counts { IfOk result
-        (λ served. IsBookOf served.closed.counts (config.sessions + config.workers + 1)
+        (λ served. IsBookOf served.closed.counts (config.sessions + config.workers)
         served.closed.bench) }
 {
-    let callers = u32::from(config.sessions) + u32::from(config.workers) + 1;
-    let (shared, mut sessions) = Shared::rolling(alloc, config.limits, callers, config.workbench)?;
-    let mut workers = sessions.split_off(usize::from(config.sessions))?;
-    let Some(keeper) = workers.pop() else {
-        return Err(NotServed);
-    };
-    let seats = Seats {
-        sessions,
-        workers,
-        keeper,
-    };
+    let callers = u32::from(config.sessions) + u32::from(config.workers);
+    let (shared, mut seats) = Shared::rolling(alloc, config.limits, callers, config.workbench)?;
+    let workers = seats.split_off(usize::from(config.sessions))?;
     let host = HostState {
         shared,
         receipts: ReceiptStore::new(alloc, config.limits.history()),
-        leases: Leases::new(alloc, config.key_timeout),
-        notices: Notices::new(alloc),
-        waiting: WaitingRoom::new(alloc),
         admission: ConnectionQueue::new(alloc, ADMISSION_THREADS),
         seats: ConnectionQueue::new(alloc, u64::from(config.sessions)),
         first_line_timeout: config.first_line_timeout,
         idle_timeout: config.idle_timeout,
         connections: config.connections,
     };
-    let results = run_threads(rt, alloc, listener, &host, secret, errors, seats);
+    let results = run_threads(rt, alloc, listener, &host, secret, errors, seats, workers);
     let HostState {
         shared,
         receipts,
-        leases: _,
-        notices: _,
-        waiting: _,
         admission: _,
         seats: _,
         first_line_timeout: _,
@@ -117,7 +94,7 @@ fn host_and_close<R: Threads + Wait + Clock + Sync, S: Sink, E: Write + Send>(
     ensures all { IfOk result
         (λ served. ShowsAll served.closed.bench served.receipts.items) }
     ensures counts { IfOk result
-        (λ served. IsBookOf served.closed.counts (config.sessions + config.workers + 1)
+        (λ served. IsBookOf served.closed.counts (config.sessions + config.workers)
         served.closed.bench) }
     ensures said { SaysLines (is_ok result) (S.held out.old) (S.held out.new) }
     ensures flushed { OnOk result (S.is_flushed out.new ≡ true) }
@@ -148,7 +125,7 @@ pub fn host_on<R: Threads + Wait + Clock + Sync, S: Sink, E: Write + Send>(
     ensures all { IfOk result.served
         (λ served. ShowsAll served.closed.bench served.receipts.items) }
     ensures counts { IfOk result.served
-        (λ served. IsBookOf served.closed.counts (config.sessions + config.workers + 1)
+        (λ served. IsBookOf served.closed.counts (config.sessions + config.workers)
         served.closed.bench) }
     ensures said { SaysLines (is_ok result.served) (S.held out.old) (S.held out.new) }
     ensures flushed { OnOk result.served (S.is_flushed out.new ≡ true) }

@@ -2,7 +2,6 @@
 ghost use Rattle.std.specs.Prelude.{◌≡◌, []};
 ghost use Rattle.fb_host.specs.HostSessions.{session_of};
 
-use crate::leases::Leases;
 use crate::receipt_store::ReceiptStore;
 use crate::session_receipts::SessionReceipts;
 use fb_locked::bench::{
@@ -27,7 +26,6 @@ pub struct SessionDesk<'a, R: Wait> {
     pub(crate) session_receipts: SessionReceipts,
     pub(crate) held: Vec<Held>,
     pub(crate) store: &'a ReceiptStore,
-    pub(crate) leases: &'a Leases,
 }
 
 impl<'a, R: Wait> Model for SessionDesk<'a, R> {
@@ -44,7 +42,6 @@ impl<'a, R: Wait> SessionDesk<'a, R> {
         rt: &'a R,
         shared: &'a Shared,
         store: &'a ReceiptStore,
-        leases: &'a Leases,
         state: CallerState,
     ) -> SessionDesk<'a, R>
         ensures { result ≡ session_of shared.now.workbench state.seat [] }
@@ -65,7 +62,6 @@ impl<'a, R: Wait> SessionDesk<'a, R> {
             session_receipts: SessionReceipts::new(),
             held,
             store,
-            leases,
         }
     }
 }
@@ -101,17 +97,7 @@ impl<R: Wait + Clock> Desk for SessionDesk<'_, R> {
                 match self.seated.receipts.last() {
                     Some(receipt) => {
                         self.session_receipts = self.session_receipts.then(receipt);
-                        let number = receipt.number();
-                        note(&mut self.held, request, &answer, number);
-                        let caller = receipt.caller();
-                        lease(
-                            self.seated.rt,
-                            self.leases,
-                            caller,
-                            request,
-                            &answer,
-                            number,
-                        );
+                        note(&mut self.held, request, &answer, receipt.number());
                     }
                     None => unreachable!(),
                 }
@@ -144,54 +130,25 @@ impl<R: Wait + Clock> Desk for SessionDesk<'_, R> {
 
 /// Notes which keys are held after a call of this number.
 fn note(held: &mut Vec<Held>, request: &Request<'_>, answer: &Answered, number: u64) {
-    if let Some(it) = taken(answer, number) {
-        hold(held, it);
-    }
-    if let Some(key) = settled(request, answer) {
-        forget(held, &key);
-    }
-}
-
-/// Notes for how long a key is out, or that it is settled, after a call of this number.
-fn lease<R: Wait + Clock>(
-    rt: &R,
-    leases: &Leases,
-    caller: u32,
-    request: &Request<'_>,
-    answer: &Answered,
-    number: u64,
-) {
-    if let Some(it) = taken(answer, number) {
-        leases.add(rt, caller, it);
-    }
-    if let Some(key) = settled(request, answer) {
-        leases.settle(rt, key, number);
-    }
-}
-
-/// The key that was taken, by a call of this number.
-fn taken(answer: &Answered, number: u64) -> Option<Held> {
     match answer {
-        Answered::Take(Taken::Job(job)) => Some(Held {
-            key: job.key(),
-            since: number,
-        }),
-        _ => None,
-    }
-}
-
-/// The key that is settled by a request with this answer.
-fn settled(request: &Request<'_>, answer: &Answered) -> Option<Key> {
-    match answer {
-        Answered::Deliver(Delivered::Accepted) | Answered::GiveBack(GivenBack::Returned) => {
-            key_of(request)
+        Answered::Take(Taken::Job(job)) => {
+            let taken = Held {
+                key: job.key(),
+                since: number,
+            };
+            hold(held, taken);
         }
-        _ => None,
+        Answered::Deliver(Delivered::Accepted) | Answered::GiveBack(GivenBack::Returned) => {
+            if let Some(key) = settled(request) {
+                forget(held, &key);
+            }
+        }
+        _ => {}
     }
 }
 
-/// The key that a request would settle.
-fn key_of(request: &Request<'_>) -> Option<Key> {
+/// The key that is settled if this is done.
+fn settled(request: &Request<'_>) -> Option<Key> {
     match request {
         Request::Deliver(finished) => Some(finished.key()),
         Request::GiveBack(key) => Some(*key),

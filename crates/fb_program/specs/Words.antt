@@ -12,15 +12,8 @@ number_option name most default = record (new_rule name) { long = Some name; par
 abbrev pub port_option : Rule
 port_option = record (new_rule (codes "port")) { long = Some (codes "port"); parser = Some (reads.Unsigned 0 65535); required = true }
 
-abbrev pub units_option : Text → Rule
-units_option default = number_option (codes "units") 16384 default
-
--- of a script and of a server that ends by itself, and of one that stays
-abbrev pub few_units : Text
-few_units = codes "1024"
-
-abbrev pub all_units : Text
-all_units = codes "16384"
+abbrev pub units_option : Rule
+units_option = number_option (codes "units") 16384 (codes "1024")
 
 abbrev pub history_option : Rule
 history_option = number_option (codes "history") 10000000 (codes "100000")
@@ -29,18 +22,18 @@ abbrev pub workers_option : Rule
 workers_option = number_option (codes "workers") 16 (codes "2")
 
 abbrev pub script_app : App
-script_app = with_rule (with_rule (new_app (codes "script")) (units_option few_units)) history_option
+script_app = with_rule (with_rule (new_app (codes "script")) units_option) history_option
 
 abbrev pub serve_app : App
 serve_app =
     with_rule (with_rule (
     with_rule (with_rule (with_rule (new_app (codes "serve")) port_option) workers_option)
     (number_option (codes "sessions") 64 (codes "1"))
-    ) (units_option few_units)) history_option
+    ) units_option) history_option
 
--- `--idle N`, a number of minutes, or 0 for none
+-- `--idle N`, a number of minutes, or 0
 abbrev pub idle_option : Rule
-idle_option = record (new_rule (codes "idle")) { long = Some (codes "idle"); parser = Some (reads.Unsigned 0 10080); defaults = codes "60" ∷ [] }
+idle_option = record (new_rule (codes "idle")) { long = Some (codes "idle"); parser = Some (reads.Unsigned 0 10080); defaults = codes "0" ∷ [] }
 
 -- `--secret FILE`, which has no default
 abbrev pub secret_option : Rule
@@ -52,7 +45,7 @@ host_app =
     with_rule (with_rule (with_rule (
     with_rule (with_rule (with_rule (new_app (codes "host")) port_option) workers_option)
     (number_option (codes "sessions") 255 (codes "32"))
-    ) (units_option all_units)) history_option) secret_option) idle_option)
+    ) units_option) history_option) secret_option) idle_option)
     (number_option (codes "connections") 1000000000 (codes "1000000000"))
 
 -- the program, which has a version and requires a subcommand

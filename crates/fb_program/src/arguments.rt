@@ -30,11 +30,6 @@ const MOST_CONNECTIONS: u64 = 1_000_000_000;
 /// The version of the program, and the kit by which it is proved and built.
 const VERSION: &str = "1.0.0 (rattle-kit-13f)";
 
-/// The units of a script and of a server that ends by itself, and those of one that stays: a plant has more than a test.
-const FEW_UNITS: &str = "1024";
-
-const ALL_UNITS: &str = "16384";
-
 const LAST_CALL: &str =
     "How many calls are recorded before all further ones are refused, 1 to 10000000";
 
@@ -64,12 +59,12 @@ fn number_option<'a>(
         .help(help)
 }
 
-fn units_option<'a>(alloc: Global, default: &'a str) -> Arg<'a>
-    ensures rule { rule_of result ≡ units_option default.now }
+fn units_option<'a>(alloc: Global) -> Arg<'a>
+    ensures rule { rule_of result ≡ units_option }
     ensures local { result.global ≡ false }
 {
     let help = "How many units there may be at once, 1 to 16384";
-    number_option(alloc, "units", MOST_UNITS, default, help)
+    number_option(alloc, "units", MOST_UNITS, "1024", help)
 }
 
 fn history_option<'a>(alloc: Global, help: &'a str) -> Arg<'a>
@@ -105,7 +100,7 @@ fn idle_option<'a>(alloc: Global) -> Arg<'a>
     Arg::new(alloc, "idle")
         .long("idle")
         .value_parser(ValueParser::unsigned(0, MOST_IDLE))
-        .default_value("60")
+        .default_value("0")
         .help("After how many minutes of silence a session ends, at most 10080, or 0 for never")
 }
 
@@ -122,19 +117,19 @@ fn command<'a>(alloc: Global) -> Result<Command<'a>, AllocError>
     ensures { IfOk result (λ c. app_of c ≡ bench_app) }
 {
     let script = Command::new(alloc, "script")
-        .arg(units_option(alloc, FEW_UNITS))?
+        .arg(units_option(alloc))?
         .arg(history_option(alloc, LAST_CALL))?;
     let serve = Command::new(alloc, "serve")
         .arg(port_option(alloc))?
         .arg(workers_option(alloc))?
         .arg(number_option(alloc, "sessions", MOST_SESSIONS, "1", CONNECTIONS))?
-        .arg(units_option(alloc, FEW_UNITS))?
+        .arg(units_option(alloc))?
         .arg(history_option(alloc, LAST_CALL))?;
     let host = Command::new(alloc, "host")
         .arg(port_option(alloc))?
         .arg(workers_option(alloc))?
         .arg(number_option(alloc, "sessions", MOST_SEATS, "32", SEATS))?
-        .arg(units_option(alloc, ALL_UNITS))?
+        .arg(units_option(alloc))?
         .arg(history_option(alloc, NEW_START))?
         .arg(secret_option(alloc))?
         .arg(idle_option(alloc))?

@@ -1,6 +1,6 @@
 //! What connections say first.
 use crate::play::compare;
-use fb_host::{begins_request, is_secret};
+use fb_host::{is_secret, speaks_http};
 use std::process::Abort;
 use std::test::Fail;
 
@@ -22,30 +22,27 @@ fn secrets_are_compared(rt: HostRuntime) {
     }
 }
 
-// The first bytes, and whether a request begins so.
+// The first bytes, and whether they are of a request of HTTP.
 const HEADS: &[(&str, bool)] = &[
-    ("{\"op\":\"take\"}\n", true),
-    (" \t\r\n{", true),
-    ("{", true),
+    ("POST / HTTP/1.1\r\n", true),
+    ("GET ", true),
+    ("PRI * HTTP/2.0\r\n", true),
+    ("POST", false),
+    (" GET ", false),
+    ("Get /", false),
+    ("{\"op\":\"take\"}\n", false),
     ("", false),
-    ("\r\n", false),
-    ("POST / HTTP/1.1\r\n", false),
-    ("patch / HTTP/1.1\r\n\r\n{", false),
-    ("\r\nPOST / HTTP/1.1\r\n\r\n{", false),
-    ("\u{16}\u{3}\u{1}{", false),
-    ("\u{b}{", false),
-    ("[{", false),
 ];
 
 #[test]
-fn requests_are_known(rt: HostRuntime) {
+fn browsers_are_known(rt: HostRuntime) {
     for (head, is_known) in HEADS {
-        assert_eq!(rt; begins_request(head.as_bytes()), *is_known, "{head}");
+        assert_eq!(rt; speaks_http(head.as_bytes()), *is_known, "{head}");
     }
 }
 
 const CONVERSATIONS: &str = r#"
-== Who does not say the secret gets no reply, also where all seats are taken / secret sesame / connections 9 / calls 2, 2 / errors bench61499: connections turned away: 8, for a wrong secret: 7
+== Who does not say the secret gets no reply, also where all seats are taken / secret sesame / connections 9 / calls 2, 2
 // Who says it gets a seat, or learns that there is none.
 connect 6
 0 says {"op":"take"}\n
@@ -78,28 +75,17 @@ connect 2
 0 asks ame\n{"op":"take"} => {"job":0}
 0 leaves
 
-== A page in a browser may send lines after its header, of which none is read / connections 8 / calls 1, 1 / errors bench61499: connections turned away: 7, for a wrong secret: 0
-connect 5
+== A page in a browser may send lines after its header, of which none is read / connections 4 / calls 1, 1
+connect 4
 0 says POST / HTTP/1.1\r\nContent-Length: 14\r\n\r\n{"op":"take"}\n
 0 leaves
 1 says GET / HTTP/1.1\r\n\r\n
 1 leaves
 2 says PRI * HTTP/2.0\r\n\r\nSM\r\n\r\n
 2 leaves
-3 says \r\nPOST / HTTP/1.1\r\n\r\n\n{"op":"take"}\n
+3 asks POST => {"refused":"BadRequest"}
+3 asks {"op":"take"} => {"job":0}
 3 leaves
-4 says [\n{"op":"take"}\n
-4 leaves
-// A method that browsers send as it is written.
-5 says patch / HTTP/1.1\r\nHost: evil.test\r\n\r\n\n{"op":"commit","changes":[{"put":"EVIL","base":0,"text":"FUNCTION_BLOCK EVIL END_FUNCTION_BLOCK"}]}\n
-5 is closed
-6 says  \r\n\n
-6 says POST
-6 is closed
-// A request may have blanks before it. Nobody has committed anything.
-7 says  \r\n 
-7 asks {"op":"commit","changes":[{"remove":"EVIL","base":1}]} => {"refused":"NoSuchUnit","unit":"EVIL"}
-7 leaves
 "#;
 
 #[test]

@@ -4,8 +4,6 @@
 #[cfg(test)]
 mod admission;
 #[cfg(test)]
-mod crowds;
-#[cfg(test)]
 mod epochs;
 #[cfg(test)]
 mod peers;

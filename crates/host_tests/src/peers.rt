@@ -13,12 +13,7 @@ const NOW_AND_THEN: u64 = 20;
 
 const BYTES: u32 = 500;
 
-/// How many milliseconds a peer sends lines at most and reads no reply.
-const FLOOD: u64 = 40_000;
-
-/// How many lines it sends at once, and how many microseconds pass from one time to the next: it must still send when the host has given up.
-const LINES_AT_ONCE: u32 = 64;
-
+/// How many microseconds pass from one line to the next where a peer reads no reply: it must still send when the host has given up.
 const BETWEEN_LINES: u64 = 200;
 
 /// How many bytes a peer reads of a line or to the end.
@@ -29,8 +24,6 @@ const LOOKS: u32 = 200_000;
 
 /// The question about the last of the units U0, U1 and so on, if there are 10 to 99: names are in order.
 const ASK_LAST: &str = r#"{"op":"ask","kind":"faults","unit":"U9"}"#;
-
-const TAKE: &str = r#"{"op":"take"}"#;
 
 /// A peer that has connected.
 pub(crate) fn connect<R: Net<Listener = TcpListener, Stream = TcpStream>>(
@@ -165,16 +158,6 @@ fn is_open(stream: &TcpStream) -> bool {
     }
 }
 
-// The line, again and again.
-fn repeated(alloc: Global, line: &str) -> io::Result<String> {
-    let mut lines = String::new(alloc);
-    for _ in 0..LINES_AT_ONCE {
-        lines.push_str(line)?;
-        lines.push('\n')?;
-    }
-    Ok(lines)
-}
-
 /// Sends the line again and again and reads no reply, until its stream ends. It gives nothing, or that the stream is still open.
 pub(crate) fn flood<R: Clock>(
     rt: &R,
@@ -183,12 +166,12 @@ pub(crate) fn flood<R: Clock>(
     line: &str,
 ) -> io::Result<String> {
     let begun = Instant::now(rt)?;
-    let lines = repeated(alloc, line)?;
+    let line = format!(in alloc; "{line}\n")?;
     stream.set_write_timeout(Some(Duration::from_millis(NOW_AND_THEN)))?;
     let mut is_open = true;
     for _ in 0..LOOKS {
-        is_open = takes(stream, lines.as_str());
-        if !is_open || Duration::from_millis(FLOOD) < begun.elapsed(rt)? {
+        is_open = takes(stream, line.as_str());
+        if !is_open || Duration::from_millis(BOUND) < begun.elapsed(rt)? {
             break;
         }
         thread::sleep(rt, Duration::from_micros(BETWEEN_LINES));
@@ -208,27 +191,6 @@ fn takes(stream: &TcpStream, text: &str) -> bool {
 pub(crate) fn leave(alloc: Global, stream: &TcpStream) -> io::Result<String> {
     let _ = stream.shutdown(Shutdown::Write);
     rest(alloc, stream)
-}
-
-/// Sends a line, and reads all that it gets.
-pub(crate) fn end(alloc: Global, stream: &TcpStream, line: &str) -> io::Result<String> {
-    let _ = say(stream, format!(in alloc; "{line}\n")?.as_str());
-    rest(alloc, stream)
-}
-
-/// Takes a key, as soon as there is one. It gives the reply.
-pub(crate) fn take<R: Clock>(rt: &R, alloc: Global, stream: &TcpStream) -> io::Result<String> {
-    let begun = Instant::now(rt)?;
-    let mut taken = String::new(alloc);
-    for _ in 0..LOOKS {
-        taken = ask(alloc, stream, TAKE)?;
-        let is_late = Duration::from_millis(BOUND) < begun.elapsed(rt)?;
-        if is_late || taken.as_str() != "{\"job\":0}\n" {
-            break;
-        }
-        thread::sleep(rt, Duration::from_millis(NOW_AND_THEN));
-    }
-    Ok(taken)
 }
 
 /// Reads all that it gets.

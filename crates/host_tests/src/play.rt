@@ -3,8 +3,7 @@
 //! A text has conversations, each a heading and steps. A heading is `== TITLE / SETTING VALUE / SETTING VALUE`, and so on. The settings are `connections`,
 //! after which the host closes, and `calls`: how many are made, and how many of them since the start of the history, or `any`. Unless others are there, a host has
 //! `sessions 1`, `workers 0`, `units 100`, `history 20`, `first-line 600000`, which are milliseconds, `idle 0`, and as its identity the numbers `high 0` and
-//! `low 0`; no `secret`, keys that sessions keep for `key 600000` milliseconds, and it prints no `errors`. With `failing yes` the system gives no connection where
-//! none waits.
+//! `low 0`; no `secret`, and it prints no `errors`.
 ghost use Rattle.std.specs.Thread.{IsSync};
 
 use crate::steps::{first_wrong, lines_in};
@@ -50,7 +49,6 @@ fn config_of(heading: &str) -> Result<HostConfig, Fail> {
         limits: Limits::new(setting(heading, "units", "100").parse()?, history).ok_or("limits")?,
         first_line_timeout: setting(heading, "first-line", "600000").parse()?,
         idle_timeout: setting(heading, "idle", "0").parse()?,
-        key_timeout: setting(heading, "key", "600000").parse()?,
         connections: setting(heading, "connections", "").parse()?,
         workbench: Identity {
             high: setting(heading, "high", "0").parse()?,
@@ -120,7 +118,6 @@ fn play<R: Net<Listener = TcpListener, Stream = TcpStream> + Threads + Wait + Cl
     let (heading, steps) = conversation.split_once('\n').ok_or("a heading alone")?;
     let listener = TcpListener::bind(rt, "127.0.0.1:0")?;
     let port = listener.local_addr()?.port();
-    listener.set_nonblocking(setting(heading, "failing", "no") == "yes")?;
     let config = config_of(heading)?;
     let secret = setting(heading, "secret", "").as_bytes();
     let errors = Mutex::new(Vec::new(alloc));

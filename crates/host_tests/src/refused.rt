@@ -1,8 +1,6 @@
 //! A session of a host of which each allocation is refused in turn, also those of a history that begins again. Another session then continues with its seat,
 //! and is given each key that the first has taken; and the workbench closes with the receipts of all calls since the start.
-use fb_host::{
-    Identity, KEY_TIMEOUT, Leases, ReceiptStore, SessionResult, give_back_all, run_host_session,
-};
+use fb_host::{Identity, ReceiptStore, SessionResult, give_back_all, run_host_session};
 use fb_serve::CallerState;
 use fb_shared::Shared;
 use fb_wire::bench::Limits;
@@ -99,15 +97,12 @@ fn say_lines<R: Wait + Clock>(
     let mut output = Vec::with_capacity(alloc, 1000)?;
     let mut feed = MemoryFeed::new(requests.as_bytes(), 8192, u64::MAX);
     let mut sink = IntoWrite::new(&mut output);
-    let leases = Leases::new(alloc, KEY_TIMEOUT);
     refuse(alloc, number);
     let SessionResult {
         end,
         mut state,
         session_receipts: _,
-    } = run_host_session(
-        rt, alloc, shared, store, &leases, state, &mut feed, &mut sink, 1000,
-    );
+    } = run_host_session(rt, alloc, shared, store, state, &mut feed, &mut sink, 1000);
     let is_refused = was_refused(alloc);
     give_back_all(rt, shared, store, &mut state);
     let session = Session {

@@ -3,7 +3,7 @@ use crate::play::compare;
 use std::test::Fail;
 
 const CONVERSATIONS: &str = r#"
-== Each of two sessions falls silent, which is printed, and then the seat is free / connections 2 / idle 100 / calls 2, 2 / errors session 1: idle\nsession 1: idle
+== Each of two sessions falls silent, which is printed before its stream ends, and then the seat is free / connections 2 / idle 100 / calls 2, 2 / errors session 1: idle\nsession 1: idle
 0 asks {"op":"take"} => {"job":0}
 0 is closed
 passed 90
@@ -22,16 +22,16 @@ passed 480
 errors => session 1: write failed
 1 leaves
 
-== One peer says nothing, and one sends a byte now and then / connections 2 / first-line 200 / calls 0, 0 / errors bench61499: connections turned away: 2, for a wrong secret: 0
+== One peer says nothing, and one sends a byte now and then / connections 2 / first-line 200 / calls 0, 0
 0 is closed
 passed 190
 1 drips
 passed 380
 
-== A byte that comes late does not give a peer more time for its first line / connections 1 / first-line 6000 / calls 0, 0 / errors bench61499: connections turned away: 1, for a wrong secret: 0
+== A byte that comes late does not give a peer more time for its first line / connections 1 / first-line 6000 / calls 0, 0
 connect 1
 wait 5000
-0 says {
+0 says x
 0 is closed
 passed 5900
 within 10000
@@ -41,6 +41,19 @@ within 10000
 wait 400
 0 asks {"op":"take"} => {"job":0}
 0 leaves
+
+== There are 32 threads of admission / connections 34 / sessions 3 / calls 4, 4
+// While all of them wait the next connection is closed at once, and one of those that wait can begin a session. When the others have gone there is entrance.
+// A seat is always free: one peer talks, and one leaves.
+connect 33
+32 is closed
+0 asks {"op":"take"} => {"job":0}
+0 asks {"op":"take"} => {"job":0}
+leave 1 to 31
+0 asks {"op":"take"} => {"job":0}
+0 leaves
+33 asks {"op":"take"} => {"job":0}
+33 leaves
 "#;
 
 #[test]

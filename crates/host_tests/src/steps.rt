@@ -12,39 +12,29 @@
 //! | `0 commits 80 => REPLY` | it commits this number of units, from 10 to 99, and gets this of the last one once workers have checked all of them |
 //! | `0 drips` | it sends a byte now and then, until it is closed |
 //! | `0 floods LINE` | it sends a line again and again and reads no reply, until it is closed |
-//! | `0 takes => REPLY` | it takes a key, as soon as there is one |
-//! | `0 ends LINE => REPLY` | it sends a line, and gets this to the end, or nothing |
 //! | `0 leaves => REPLY` | it ends its sending, and gets this to the end, or nothing |
 //! | `each 0 to 63 STEP => REPLY` | each of these peers makes this step |
 //! | `leave 1 to 31 => REPLY` | each of these peers ends its sending, and gets this to the end, or nothing |
 //! | `0 is closed => REPLY` | it gets this to the end, or nothing |
-//! | `errors => TEXT` | this is what the host has printed on its errors, soon |
-//! | `errors are held` | nobody reads what the host prints on its errors |
-//! | `errors are free` | it is read again |
+//! | `errors => TEXT` | this is what the host has printed on its errors |
 //! | `passed 90` | at least this number of milliseconds have passed since the first step |
 //! | `within 9000` | at most this number |
 //! | `wait 400` | this number of milliseconds pass |
 use crate::peers::{
-    commit_all, commit_units, connect, count, drip, end, flood, get, leave, repeat, rest, say, take,
+    commit_all, commit_units, connect, count, drip, flood, get, leave, repeat, rest, say,
 };
 use std::alloc::{AllocError, Global};
 use std::io::ErrorKind;
 use std::net::{Net, TcpListener, TcpStream};
-use std::sync::{Mutex, MutexGuard, Wait};
+use std::sync::{Mutex, Wait};
 use std::time::{Clock, Duration, Instant};
 use std::{io, thread};
 
-/// How often it is looked whether the host has printed something, and how many milliseconds pass from one look to the next.
-const LOOKS: u32 = 10_000;
-
-const PAUSE: u64 = 2;
-
-/// Where a host listens, what it prints on its errors, a hold of that if nobody reads it, and when the first step was made.
+/// Where a host listens, what it prints on its errors, and when the first step was made.
 #[derive(Drop)]
 struct Scene<'a> {
     port: u16,
     errors: &'a Mutex<Vec<u8>>,
-    held: Option<MutexGuard<'a, Vec<u8>>>,
     begun: Instant,
 }
 
@@ -131,24 +121,6 @@ fn printed<R: Wait>(rt: &R, alloc: Global, errors: &Mutex<Vec<u8>>) -> io::Resul
     Ok(String::from_utf8(bytes).ok().ok_or(ErrorKind::InvalidData)?)
 }
 
-// What is printed as soon as that is this, or what is printed at last.
-fn printed_soon<R: Wait + Clock>(
-    rt: &R,
-    alloc: Global,
-    errors: &Mutex<Vec<u8>>,
-    wanted: &str,
-) -> io::Result<String> {
-    let mut told = String::new(alloc);
-    for _ in 0..LOOKS {
-        told = printed(rt, alloc, errors)?;
-        if told.as_str() == wanted {
-            break;
-        }
-        thread::sleep(rt, Duration::from_millis(PAUSE));
-    }
-    Ok(told)
-}
-
 fn passed<R: Clock>(rt: &R, alloc: Global, begun: Instant, least: usize) -> io::Result<String> {
     let is_soon = begun.elapsed(rt)? < Duration::from_millis(least as u64);
     Ok(String::from_str(alloc, if is_soon { "too soon" } else { "" })?)
@@ -193,8 +165,6 @@ fn got<R: Clock>(
         }
         ("commits", count) => commit_all(rt, alloc, stream, number_in(count)?),
         ("drips", "") => drip(alloc, stream),
-        ("takes", "") => take(rt, alloc, stream),
-        ("ends", line) => end(alloc, stream, line),
         ("floods", line) => flood(rt, alloc, stream, line),
         ("leaves", "") => leave(alloc, stream),
         ("is", "closed") => rest(alloc, stream),
@@ -206,7 +176,7 @@ fn got<R: Clock>(
 fn told<R: Net<Listener = TcpListener, Stream = TcpStream> + Wait + Clock>(
     rt: &R,
     alloc: Global,
-    scene: &mut Scene<'_>,
+    scene: &Scene<'_>,
     streams: &mut Vec<TcpStream>,
     step: &str,
     wanted: &str,
@@ -216,15 +186,7 @@ fn told<R: Net<Listener = TcpListener, Stream = TcpStream> + Wait + Clock>(
         ("connect", count) => connect_all(rt, alloc, scene.port, streams, number_in(count)?),
         ("each", words) => each(rt, alloc, scene.port, streams, words, wanted),
         ("leave", range) => leave_all(alloc, streams, range, wanted),
-        ("errors", "") => printed_soon(rt, alloc, scene.errors, wanted),
-        ("errors", "are held") => {
-            scene.held = Some(scene.errors.lock(rt));
-            Ok(String::new(alloc))
-        }
-        ("errors", "are free") => {
-            scene.held = None;
-            Ok(String::new(alloc))
-        }
+        ("errors", "") => printed(rt, alloc, scene.errors),
         ("passed", least) => passed(rt, alloc, scene.begun, number_in(least)?),
         ("within", most) => within(rt, alloc, scene.begun, number_in(most)?),
         ("wait", length) => Ok(wait(rt, alloc, number_in(length)?)),
@@ -245,17 +207,16 @@ pub(crate) fn first_wrong<R: Net<Listener = TcpListener, Stream = TcpStream> + W
     errors: &Mutex<Vec<u8>>,
     steps: &str,
 ) -> io::Result<Option<String>> {
-    let mut scene = Scene {
+    let scene = Scene {
         port,
         errors,
-        held: None,
         begun: Instant::now(rt)?,
     };
     let mut streams = Vec::new(alloc);
     for line in steps.split('\n') {
         let (step, wanted) = line.split_once(" => ").unwrap_or((line, ""));
         let (step, wanted) = (text_in(alloc, step)?, lines_in(alloc, wanted)?);
-        match told(rt, alloc, &mut scene, &mut streams, &step, &wanted) {
+        match told(rt, alloc, &scene, &mut streams, &step, &wanted) {
             Ok(told) => {
                 if told.as_str() != wanted.as_str() {
                     return Ok(Some(format!(in alloc; "{line}: {told}")?));

@@ -118,7 +118,7 @@ fn words_give_servers(rt: HostRuntime) -> Result<(), Fail> {
 }
 
 // Words that ask for a server that stays: the same, the secret, the minutes, and the connections.
-const HOSTED: &str = r#"host --port 7 => host 7 2 32 16384 100000 None 60 1000000000
+const HOSTED: &str = r#"host --port 7 => host 7 2 32 1024 100000 None 0 1000000000
 host --port 0 --sessions 1 --workers 1 --units 1 --history 1 --secret s --idle 0 --connections 1 => host 0 1 1 1 1 Some("s") 0 1
 host --connections=1000000000 --idle=10080 --secret=a/b --history=10000000 --units=16384 --workers=16 --sessions=255 --port=65535 => host 65535 16 255 16384 10000000 Some("a/b") 10080 1000000000
 host --port 6149 --sessions 3 --workers 5 --units 17 --history 19 --idle 23 --connections 29 => host 6149 5 3 17 19 None 23 29"#;
