@@ -21,7 +21,7 @@ import seen
 from conversations import Conversation
 
 BUILT = Path(__file__).resolve().parents[1] / "crates/bench61499/out/bench61499"
-LONGEST = 60  # seconds of a processor, and ten times as many by the clock
+LONGEST, TIMES = 60, 10  # seconds of a processor, and how many times as long by the clock
 SHOWN = 3
 LONGEST_SHOWN = 1000
 
@@ -34,9 +34,9 @@ def bounded():
 def by_program(program, words, given):
     """Output, status and standard error; of a wrong command line no more than the status is known."""
     try:
-        done = subprocess.run([program, "script", *words], input=given, capture_output=True, preexec_fn=bounded, timeout=10 * LONGEST)
+        done = subprocess.run([program, "script", *words], input=given, capture_output=True, preexec_fn=bounded, timeout=TIMES * LONGEST)
     except subprocess.TimeoutExpired:
-        return b"", None, "no end in %d seconds" % (10 * LONGEST)
+        return b"", None, "no end in %d seconds" % (TIMES * LONGEST)
     if done.returncode in (-signal.SIGXCPU, -signal.SIGKILL):
         return b"", None, "no end in %d seconds of a processor" % LONGEST
     return done.stdout, done.returncode, None if done.returncode == 2 else done.stderr.decode(errors="replace")

@@ -10,6 +10,7 @@ import sys
 import textwrap
 
 import code_parts
+import editor_features
 import gate_seconds
 import headline
 import promises
@@ -62,6 +63,7 @@ TABLES = {
     **{f"options of {it}": functools.partial(options, it) for it in CLIENTS},
     "tools": tools,
     "what Neovim shows": neovim,
+    "what editors get": editor_features.table,
     "how much to read": headline.how_much,
     "promises": promises.all_promises,
     "crates": promises.all_crates,

@@ -242,7 +242,7 @@ def displayed(it, is_open=False):
     lines = it.text.split("\n")
     end = next((at for at, line in enumerate(lines) if line.startswith(f"{it.name} ") and not line.startswith(f"{it.name} :")), len(lines))
     if is_open:
-        return "\n".join(lines[:end])
+        return "\n".join([*lines[:end], f"-- (left open here: the page {OPEN[it.title]} defines it)"])
     crate, name = LAWS[it.title]
     return "\n".join([*lines[:end], f"-- by the law {name} of {crate}:", textwrap.dedent(parts.function(crate, name).contract)])
 

@@ -1,15 +1,19 @@
 """lsp: hints within a text, steps of selection, symbols of all names, mappings that are missing, and progress."""
 from __future__ import annotations
 
+import importlib
+import sys
 import unittest
 from pathlib import Path
+from unittest.mock import patch
 
 from editing import LspTest
-from support import workbench
+from support import CLIENTS, workbench
 from test_features import ConveyorTest
 
 from bench61499 import Places, Put, Session
 from bench61499.language.positions import edited, place
+from bench61499.lsp.answers import CAPABILITIES
 
 
 class HintsTest(ConveyorTest):
@@ -135,6 +139,21 @@ class MappingTest(ConveyorTest):
         self.assertEqual(list(found)[:2], ["Map LINE.FIRST.BELT on NORTH.MOTION in PLANT", "Map LINE.FIRST.BELT on SOUTH.MOTION in PLANT"])
         self.assertTrue(hasattr(self.plan(self.done(found["Map LINE.FIRST.BELT on NORTH.MOTION in PLANT"])), "resources"))
         self.assertEqual(self.actions("STATION", "LIFT : LIFTER"), {})
+
+
+class FeaturesTest(unittest.TestCase):
+    """The table of what editors get, made from the capabilities that the server tells."""
+
+    def test_nothing_that_it_names_is_lacking(self) -> None:
+        tools = str(CLIENTS.parent / "tools")
+        if not Path(tools, "editor_features.py").is_file():
+            self.skipTest("the tools are not here")
+        sys.path.insert(0, tools)
+        self.addCleanup(sys.path.remove, tools)
+        features = importlib.import_module("editor_features")
+        self.assertNotIn("| lack |", features.table())
+        with patch.dict(CAPABILITIES, {"inlayHintProvider": False}):
+            self.assertIn("| inlay hints | have | lack |", features.table())
 
 
 class ReadingTest(LspTest):

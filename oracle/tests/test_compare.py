@@ -70,7 +70,8 @@ class ComparisonTest(unittest.TestCase):
             path.chmod(0o700)
             self.assertEqual((b"", None, "no end in 10 seconds"), compare.by_program(path, [], b""))
             path.write_text("#!/bin/sh\nwhile :; do :; done\n")
-            self.assertEqual((b"", None, "no end in 1 seconds of a processor"), compare.by_program(path, [], b""))
+            with mock.patch.object(compare, "TIMES", 1000):
+                self.assertEqual((b"", None, "no end in 1 seconds of a processor"), compare.by_program(path, [], b""))
 
     def test_files_that_are_absent(self):
         with contextlib.redirect_stderr(io.StringIO()) as said:

@@ -2,16 +2,19 @@
 from __future__ import annotations
 
 from collections.abc import Iterator
+from itertools import islice
 from typing import Any
 
 from bench61499.language.declarations import EVENT, Declaration
 from bench61499.language.plans import resources
 from bench61499.language.plant import Plant, Text
 from bench61499.language.wording import counted
-from bench61499.lsp.instances import homes_below, leading_to, paths, units_in
+from bench61499.lsp.instances import homes_of_instance, leading_to, paths, units_in
 
 _TYPE, _OTHER = 1, 0
 _MOST_NAMED = 2
+_MOST_PATHS = 256
+"""Instances of the unit in one system whose resources are looked at."""
 
 
 def hints(plant: Plant, text: Text, start: int, end: int) -> list[dict[str, Any]]:
@@ -37,11 +40,11 @@ def _homes(plant: Plant, text: Text, its: list[Declaration]) -> dict[int, list[s
     found: dict[int, dict[str, None]] = {it.start: {} for it in its}
     for system in systems:
         mapped = resources(system.text)
-        fronts: list[tuple[str, ...]] = [()] if system is text else list(paths(plant, system, text.unit.name, leading))
+        fronts: list[tuple[str, ...]] = [()] if system is text else list(islice(paths(plant, system, text.unit.name, leading), _MOST_PATHS))
         for it in its:
             own = (it.key.owner, it.key.name) if it.key.scope else (it.key.name,)
             for front in fronts:
-                found[it.start] |= dict.fromkeys(homes_below((*front, *own), mapped))
+                found[it.start] |= dict.fromkeys(homes_of_instance(it, (*front, *own), mapped))
     return {at: sorted(names) for at, names in found.items()}
 
 

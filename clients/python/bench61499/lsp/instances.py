@@ -54,7 +54,10 @@ def home_of(path: tuple[str, ...], homes: Mapping[str, str]) -> str | None:
     return next((homes[it] for it in found if it in homes), None)
 
 
-def homes_below(path: tuple[str, ...], homes: Mapping[str, str]) -> list[str]:
+def homes_of_instance(it: Declaration, path: tuple[str, ...], homes: Mapping[str, str]) -> list[str]:
     """The resource of an instance; of a subapplication whose parts have mappings of their own, all of theirs."""
-    whole, front = home_of(path, homes), ".".join(path) + "."
-    return [*([whole] if whole else []), *(home for it, home in homes.items() if it.startswith(front))]
+    whole = home_of(path, homes)
+    if it.section != "SUBAPPS":
+        return [whole] if whole else []
+    front = ".".join(path) + "."
+    return [*([whole] if whole else []), *(home for mapped, home in homes.items() if mapped.startswith(front))]

@@ -2,6 +2,7 @@
 from __future__ import annotations
 
 from collections.abc import Iterator
+from itertools import islice
 
 from bench61499.language.declarations import DEVICE, Declaration, Key
 from bench61499.language.nesting import Nesting
@@ -9,7 +10,7 @@ from bench61499.language.plans import resources
 from bench61499.language.plant import Plant, Text
 from bench61499.language.tokens import pieces
 from bench61499.lsp.fixes import Fix, added, at_end
-from bench61499.lsp.instances import homes_below, leading_to, paths, units_in
+from bench61499.lsp.instances import homes_of_instance, leading_to, paths, units_in
 
 _MOST_PATHS, _MOST_RESOURCES = 4, 8
 """Instances of a type, and resources of their systems, that are offered."""
@@ -25,8 +26,8 @@ def mappings(plant: Plant, text: Text, start: int, end: int) -> Iterator[Fix]:
     for system in systems:
         mapped = resources(system.text)
         fronts: list[tuple[str, ...]] = [(its.key.owner,)] if system is text else sorted(paths(plant, system, text.unit.name, leading))
-        unmapped = [path for front in fronts if not homes_below(path := (*front, its.key.name), mapped)]
-        for path in unmapped[:_MOST_PATHS]:
+        unmapped = (path for front in fronts if not homes_of_instance(its, path := (*front, its.key.name), mapped))
+        for path in islice(unmapped, _MOST_PATHS):
             yield from _offered(plant, text, system, _spelled(plant, system, path))
 
 
