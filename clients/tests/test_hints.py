@@ -142,7 +142,7 @@ class MappingTest(ConveyorTest):
 
 
 class FeaturesTest(unittest.TestCase):
-    """The table of what editors get, made from the capabilities that the server tells."""
+    """The table of what editors get, made from the capabilities that the server has."""
 
     def test_nothing_that_it_names_is_lacking(self) -> None:
         tools = str(CLIENTS.parent / "tools")
