@@ -109,7 +109,7 @@ class MappingTest(ConveyorTest):
 
     def done(self, changes: dict) -> str:
         ((uri, edits),) = changes.items()
-        return edited(Path(uri.removeprefix("file://")).read_text(), edits)
+        return edited(Path(uri.removeprefix("file://")).read_text(encoding="utf-8"), edits)
 
     def plan(self, text: str) -> object:
         with Session.script(workbench()) as session:
