@@ -34,6 +34,8 @@ class Editor:
     def close(self) -> None:
         """Ends the server; reads what it still sends, as it can't end before."""
         self._watch.cancel()
+        if self.process.stdin.closed:
+            self.process.stdin = None
         self.process.communicate(timeout=60)
 
     def send(self, message: dict) -> None:
