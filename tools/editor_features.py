@@ -1,4 +1,4 @@
-"""What editors get of the language server, beside what they get of rust-analyzer for Rust: a table for editors/README.md, in which the server itself tells what it has."""
+"""What editors get of the language server, beside what they get of rust-analyzer for Rust: a table for editors/README.md, in which the server itself shows what it has."""
 import sys
 from typing import NamedTuple
 
@@ -8,7 +8,7 @@ CLIENTS = f"{code_parts.TOP}/clients/python"
 
 
 class Feature(NamedTuple):
-    """A feature by its name, what rust-analyzer has of it, the capability of the server that it needs ("" if none), and what there is here."""
+    """A feature by its name, what rust-analyzer has of it, the capability of the server that it needs ("" if none), and what the server has."""
 
     name: str
     other: str

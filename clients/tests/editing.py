@@ -32,10 +32,11 @@ class Editor:
         self._number = 0
 
     def close(self) -> None:
+        """Ends the server; reads what it still sends, as it can't end before."""
         self._watch.cancel()
-        self.process.stdin.close()
-        self.process.wait(60)
-        self.process.stdout.close()
+        if self.process.stdin.closed:
+            self.process.stdin = None
+        self.process.communicate(timeout=60)
 
     def send(self, message: dict) -> None:
         write_message(self.process.stdin, message)

@@ -273,7 +273,7 @@ PLANT (SYSTEM) 3 2-25
         self.assertEqual(found[-4:], ["  DONE (EC_STATES) 22 13-13", *algorithms])
 
     def test_units(self):
-        """Behind them other names that have all of the query."""
+        """After them other names that have all of the query."""
         self.assertEqual(self.units("fe")[:2], ["FEEDER", "LIFTER"])
         self.assertEqual(self.units("lt"), ["LIFTER", "PLANT", "BELT"])
         self.assertEqual(self.units(""), ["FEEDER", "HANDOVER", "ITEM", "LAMP", "LIFTER", "PLANT", "STATION"])

@@ -109,7 +109,7 @@ class MappingTest(ConveyorTest):
 
     def done(self, changes: dict) -> str:
         ((uri, edits),) = changes.items()
-        return edited(Path(uri.removeprefix("file://")).read_text(), edits)
+        return edited(Path(uri.removeprefix("file://")).read_text(encoding="utf-8"), edits)
 
     def plan(self, text: str) -> object:
         with Session.script(workbench()) as session:
@@ -142,7 +142,7 @@ class MappingTest(ConveyorTest):
 
 
 class FeaturesTest(unittest.TestCase):
-    """The table of what editors get, made from the capabilities that the server tells."""
+    """The table of what editors get, made from the capabilities that the server has."""
 
     def test_nothing_that_it_names_is_lacking(self) -> None:
         tools = str(CLIENTS.parent / "tools")

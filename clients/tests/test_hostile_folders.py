@@ -78,7 +78,7 @@ class FilesTest(HostileTest):
             os.close(outer)
         os.close(os.open("A.fb", os.O_CREAT | os.O_WRONLY, dir_fd=inner))
         os.close(inner)
-        self.addCleanup(subprocess.run, ["rm", "-rf", self.plant], check=True)
+        self.addCleanup(lambda: subprocess.run(["rm", "-rf", self.plant], check=True))
         self.assertEqual(self.check("plant").stdout.splitlines()[-1], "1 fault in 1 of 8 units")
         folder = Folder([self.plant])
         self.assertEqual((folder.look(), len(folder.units)), (True, 8))

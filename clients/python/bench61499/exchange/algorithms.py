@@ -130,7 +130,7 @@ def _unwrapped(context: Context, at: Element, words: str) -> str:
 
 
 def unwrapped(words: str) -> tuple[str, str]:
-    """The name behind ALGORITHM at the begin of a body and what is between that and END_ALGORITHM; no name and the whole if these are not there."""
+    """The name after ALGORITHM at the begin of a body and what is between that and END_ALGORITHM; no name and the whole if these are not there."""
     masked = _ASIDE.sub(lambda it: re.sub(r"[^\n]", " ", it[0]), words)
     begin, end = _BEGIN.match(masked), _END.search(masked)
     if not begin or not end or end.start() < begin.end():
@@ -140,5 +140,5 @@ def unwrapped(words: str) -> tuple[str, str]:
 
 
 def can_stand(body: str) -> bool:
-    """Whether a text goes on behind a body that it skips. One that no text has room for is not looked at: its unit is refused."""
+    """Whether a text goes on after a body that it skips. One that no text has room for is not looked at: its unit is refused."""
     return len(body) > TEXT_LIMIT or not any(it.kind == "unclosed" or it.kind == "word" and it.upper == "END_ALGORITHM" for it in pieces(body))

@@ -3,7 +3,7 @@ from __future__ import annotations
 
 from itertools import pairwise
 
-from bench61499.language.declarations import FIELD, INSTANCE, LOCAL, VARIABLE, Key
+from bench61499.language.declarations import FIELD, INSTANCE, LOCAL, VARIABLE, Declaration, Key, Use
 from bench61499.language.full_body import Body
 from bench61499.language.full_tokens import KEYWORDS
 from bench61499.language.imported import name_of
@@ -52,7 +52,8 @@ def captured(plant: Plant, key: Key, name: str) -> str | None:
 
 def _own_place(text: Text, body: Body, key: Key) -> int:
     """The first place in an algorithm that uses a name, else that declares it; 0 if there is none."""
-    return next((it.start for it in (*text.unit.uses, *text.unit.declared) if it.key == key and body.begin <= it.start < body.end), 0)
+    its: list[Use | Declaration] = [*text.unit.uses, *text.unit.declared]
+    return next((it.start for it in its if it.key == key and body.begin <= it.start < body.end), 0)
 
 
 def _first_of(body: Body, name: str) -> Token | None:
