@@ -250,8 +250,8 @@ class CompletionTest(PlantTest):
 
     def test_types(self):
         offered = self.offered("FUNCTION_BLOCK X VAR A : ", "X")
-        self.assertEqual(offered[:3] + offered[-2:], ["BOUNDS", "TANK", "BOOL", "ANY", "ARRAY"])
-        self.assertEqual(self.offered("TYPE TANK : STRUCT A : ", "TANK")[:2], ["BOUNDS", "BOOL"])
+        self.assertEqual(offered[:3] + offered[-2:], ["Bounds", "TANK", "BOOL", "ANY", "ARRAY"])
+        self.assertEqual(self.offered("TYPE TANK : STRUCT A : ", "TANK")[:2], ["Bounds", "BOOL"])
         self.assertNotIn("TANK", self.offered("FUNCTION_BLOCK X FBS A : ", "X"))
 
     def test_words(self):
