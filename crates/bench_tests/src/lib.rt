@@ -21,6 +21,8 @@ mod nets;
 #[cfg(test)]
 mod owners;
 #[cfg(test)]
+mod places;
+#[cfg(test)]
 mod plans;
 #[cfg(test)]
 mod refusals;

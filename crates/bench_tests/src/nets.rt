@@ -39,6 +39,13 @@ each net C D => {"net":{"recursive":["A","B"]}}
 {"op":"work","turns":9} => {"accepted":3}
 {"op":"ask","kind":"net","unit":"OUTER"} => {"net":{"blocked":["OUTER","T"]}}
 
+== The net of a subapplication is worked again beside the nets that are kept
+{"op":"commit","changes":[{"put":"T","base":0,"text":"FUNCTION_BLOCK T EVENT_INPUT I; END_EVENT EVENT_OUTPUT O; END_EVENT END_FUNCTION_BLOCK"},{"put":"INNER","base":0,"text":"SUBAPPLICATION INNER EVENT_INPUT E; END_EVENT FBS F1:T; F2:T; END_FBS EVENT_CONNECTIONS E TO F1.I; E TO F2.I; END_CONNECTIONS END_SUBAPPLICATION"},{"put":"MID","base":0,"text":"SUBAPPLICATION MID EVENT_INPUT E; END_EVENT SUBAPPS K:INNER; END_SUBAPPS EVENT_CONNECTIONS E TO K.E; END_CONNECTIONS END_SUBAPPLICATION"},{"put":"OUTER","base":0,"text":"SUBAPPLICATION OUTER FBS G:T; END_FBS SUBAPPS N:MID; END_SUBAPPS EVENT_CONNECTIONS G.O TO N.E; END_CONNECTIONS END_SUBAPPLICATION"}]} => {"commit":1}
+{"op":"work","turns":9} => {"accepted":7}
+{"op":"commit","changes":[{"put":"OUTER","base":1,"text":"SUBAPPLICATION OUTER FBS G:T; END_FBS SUBAPPS N:MID; END_SUBAPPS EVENT_CONNECTIONS G.O TO N.E; END_CONNECTIONS END_SUBAPPLICATION"}]} => {"commit":2}
+{"op":"work","turns":9} => {"accepted":2}
+{"op":"ask","kind":"net","unit":"OUTER"} => {"net":{"blocks":[["G","T"],["N.K.F1","T"],["N.K.F2","T"]],"borders":[],"links":[["event","G.O","N.K.F1.I"],["event","G.O","N.K.F2.I"]]}}
+
 == A plug and a socket, one of them inside a subapplication
 {"op":"commit","changes":[{"put":"AD","base":0,"text":"ADAPTER AD EVENT_INPUT CF; END_EVENT EVENT_OUTPUT RQ; END_EVENT VAR_OUTPUT V:INT; END_VAR END_ADAPTER"},{"put":"PP","base":0,"text":"FUNCTION_BLOCK PP PLUGS P:AD; END_PLUGS END_FUNCTION_BLOCK"},{"put":"QQ","base":0,"text":"FUNCTION_BLOCK QQ SOCKETS Q:AD; END_SOCKETS END_FUNCTION_BLOCK"},{"put":"SB","base":0,"text":"SUBAPPLICATION SB SOCKETS K:AD; END_SOCKETS FBS R:QQ; END_FBS ADAPTER_CONNECTIONS K TO R.Q; END_CONNECTIONS END_SUBAPPLICATION"},{"put":"TP","base":0,"text":"SUBAPPLICATION TP FBS L:PP; END_FBS SUBAPPS M:SB; END_SUBAPPS ADAPTER_CONNECTIONS L.P TO M.K; END_CONNECTIONS END_SUBAPPLICATION"}]} => {"commit":1}
 {"op":"work","turns":9} => {"accepted":7}

@@ -1,62 +1,62 @@
-//! What those who watch wait for. It has a lock of its own, so that many who are woken at once do not hold up the calls.
+//! What those who watch wait for. It has a lock of its own, so that many who wake at once do not hold up the calls.
 use std::sync::{Condvar, CondvarTimeouts, Mutex, Wait};
 use std::time::{Clock, Duration};
 
 /// How many milliseconds a watch waits at most if the workbench is about to be closed.
 const CLOSING: u64 = 100;
 
-/// The number of the last event that was told of, and whether the workbench is about to be closed.
+/// The number of the last event that is known here, and whether the workbench is about to be closed.
 #[derive(Drop)]
-struct Told {
-    last_event: u64,
+struct Latest {
+    event: u64,
     is_closing: bool,
 }
 
-/// What was told, and who waits for it.
+/// The latest event, and who waits for the next one.
 #[derive(Drop)]
 pub(crate) struct News {
-    told: Mutex<Told>,
+    latest: Mutex<Latest>,
     waiting: Condvar,
 }
 
 impl News {
-    /// Nothing was told.
+    /// No event is known.
     pub(crate) fn new() -> News {
         News {
-            told: Mutex::new(Told {
-                last_event: 0,
+            latest: Mutex::new(Latest {
+                event: 0,
                 is_closing: false,
             }),
             waiting: Condvar::new(),
         }
     }
 
-    /// Tells of an event, and wakes those who wait. An event with a lesser number may be told of later.
-    pub(crate) fn tell<R: Wait>(&self, rt: &R, event: u64) {
-        let mut told = self.told.lock(rt);
-        told.last_event = told.last_event.max(event);
-        drop(told);
+    /// Announces an event, and wakes those who wait. One with a lesser number may be announced later.
+    pub(crate) fn announce<R: Wait>(&self, rt: &R, event: u64) {
+        let mut latest = self.latest.lock(rt);
+        latest.event = latest.event.max(event);
+        drop(latest);
         self.waiting.notify_all();
     }
 
-    /// Waits until an event after this number is told of, but not for longer than this. It gives the number of the last one.
+    /// Waits until an event after this number is known, but not for longer than this. It gives the number of the last one.
     pub(crate) fn after<R: Wait + Clock>(&self, rt: &R, number: u64, wait: Duration) -> u64 {
-        let told = self.told.lock(rt);
-        let closing = told.is_closing;
+        let latest = self.latest.lock(rt);
+        let closing = latest.is_closing;
         let most = if closing {
             wait.min(Duration::from_millis(CLOSING))
         } else {
             wait
         };
-        let (told, _timeout) = self.waiting.wait_timeout_while(rt, told, most, |told| {
-            told.last_event <= number && told.is_closing == closing
+        let (latest, _timeout) = self.waiting.wait_timeout_while(rt, latest, most, |latest| {
+            latest.event <= number && latest.is_closing == closing
         });
-        told.last_event
+        latest.event
     }
 
     /// From now on nobody waits long.
     pub(crate) fn end_waits<R: Wait>(&self, rt: &R) {
-        self.told.lock(rt).is_closing = true;
+        self.latest.lock(rt).is_closing = true;
         self.waiting.notify_all();
     }
 }

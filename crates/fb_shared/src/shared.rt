@@ -69,7 +69,7 @@ impl Hold<'_> {
         let event = state.bench().last_event();
         drop(state);
         if last_event < event {
-            news.tell(rt, event);
+            news.announce(rt, event);
         }
     }
 

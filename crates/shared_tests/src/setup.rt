@@ -62,9 +62,9 @@ pub(crate) fn comes_to<R: Clock>(rt: &R, count: &AtomicU64, number: u64) -> bool
     false
 }
 
-/// The same with no pause between the looks; false after 20 million.
+/// The same with no pause between the looks; false after 2,000,000,000 of them.
 pub(crate) fn spins_to(count: &AtomicU64, number: u64) -> bool {
-    for _ in 0..20_000_000u32 {
+    for _ in 0..2_000_000_000u32 {
         if number <= count.load(Ordering::SeqCst) {
             return true;
         }

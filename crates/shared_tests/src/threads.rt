@@ -12,18 +12,18 @@ use std::thread::join;
 #[test]
 fn two_threads_ask(rt: HostRuntime) -> Result<(), Fail> {
     let alloc: Global = rt.alloc();
-    let (shared, first, second) = new_shared(alloc, 3000)?;
+    let (shared, first, second) = new_shared(alloc, 400)?;
     let (a, b) = join(
         &rt,
-        || ask_often(&rt, alloc, &shared, first, 1500),
-        || ask_often(&rt, alloc, &shared, second, 1500),
+        || ask_often(&rt, alloc, &shared, first, 200),
+        || ask_often(&rt, alloc, &shared, second, 200),
     );
     let (first, mut receipts) = a.ok_or("refused")?;
     let (second, mut others) = b.ok_or("refused")?;
     receipts.append(&mut others)?;
-    assert_eq!(rt; receipts.len(), 3000);
+    assert_eq!(rt; receipts.len(), 400);
     let counts = counts_in(shared.close(alloc, pair(alloc, first, second)?, &receipts));
-    assert_eq!(rt; counts, Some((3000, 1500, 1500)));
+    assert_eq!(rt; counts, Some((400, 200, 200)));
     Ok(())
 }
 
