@@ -1,6 +1,7 @@
 //! The keeper of keys: it gives back what a session has taken and not settled for too long.
 ghost use Rattle.fb_host.specs.HostSessions.{LeadsTo};
 
+use crate::leases::Lease;
 use crate::session::give_back_all;
 use crate::threads::HostState;
 use fb_serve::{CallerState, hold, pause};
@@ -8,7 +9,6 @@ use std::sync::Wait;
 use std::time::Clock;
 
 /// Gives back each key that was out for too long, if it is still out since it was taken, by a call of a seat of the host's own.
-#[tactic(auto, using(crate::proofs::SessionLemmas::leads))]
 pub(crate) fn keep_keys<R: Wait + Clock>(
     rt: &R,
     host: &HostState,
@@ -23,12 +23,17 @@ pub(crate) fn keep_keys<R: Wait + Clock>(
         };
         hold(&mut state.held, lease.held);
         give_back_all(rt, &host.shared, &host.receipts, &mut state);
-        if state.held.is_empty() {
-            host.leases.remove(rt, &lease);
-        } else {
-            pause(rt);
-        }
+        end_lease(rt, host, &lease, state.held.is_empty());
     }
     // `forever` never ends.
     unreachable!()
+}
+
+/// Forgets a key that is given back, or pauses before the next try.
+fn end_lease<R: Wait + Clock>(rt: &R, host: &HostState, lease: &Lease, has_returned: bool) {
+    if has_returned {
+        host.leases.remove(rt, lease);
+    } else {
+        pause(rt);
+    }
 }

@@ -321,22 +321,33 @@ fn run_sessions<R: Wait + Clock>(
         let Some(connection) = host.seats.next(rt) else {
             return state;
         };
-        let (left, notice) = serve_connection(rt, alloc, host, state, &connection);
-        state = left;
+        let mut notice = None;
+        state = serve_connection(rt, alloc, host, state, &connection, &mut notice);
         give_back_all(rt, &host.shared, &host.receipts, &mut state);
-        if state.held.is_empty() {
-            host.leases.end(rt, caller);
-        }
-        host.seats.add_idle(rt);
-        if let Some(notice) = notice {
-            host.notices.add(rt, notice);
-        }
+        end_visit(rt, host, caller, state.held.is_empty(), notice);
     }
     // `forever` never ends.
     unreachable!()
 }
 
-/// A session, and what is to be printed of its end.
+/// Frees a seat, and then prints how its session ended. `has_returned` is whether the session has given back all keys.
+fn end_visit<R: Wait>(
+    rt: &R,
+    host: &HostState,
+    caller: u32,
+    has_returned: bool,
+    notice: Option<Notice>,
+) {
+    if has_returned {
+        host.leases.end(rt, caller);
+    }
+    host.seats.add_idle(rt);
+    if let Some(notice) = notice {
+        host.notices.add(rt, notice);
+    }
+}
+
+/// A session. `notice` is then what is to be printed of its end.
 #[tactic(auto, using(crate::proofs::SessionLemmas::leads))]
 fn serve_connection<R: Wait + Clock>(
     rt: &R,
@@ -344,8 +355,9 @@ fn serve_connection<R: Wait + Clock>(
     host: &HostState,
     state: CallerState,
     connection: &Connection,
-) -> (CallerState, Option<Notice>)
-    ensures { LeadsTo state.seat result.0.seat }
+    notice: &mut Option<Notice>,
+) -> CallerState
+    ensures { LeadsTo state.seat result.seat }
 {
     let caller = state.seat.caller();
     let idle = (0 < host.idle_timeout).then_some(Duration::from_millis(host.idle_timeout));
@@ -371,7 +383,8 @@ fn serve_connection<R: Wait + Clock>(
             TURNS,
         )
     };
-    (state, notice_of(caller, end, input.is_idle))
+    *notice = notice_of(caller, end, input.is_idle);
+    state
 }
 
 /// What is to be printed of the end of a session: nothing if its input ended.

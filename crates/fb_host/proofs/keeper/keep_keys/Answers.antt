@@ -1,0 +1,5 @@
+use Rattle.fb_host.proofs.SessionLemmas.{leads_on}
+use Rattle.fb_host.proofs.keeper.keep_keys.Goals as goal
+
+pub loop-preserved : goal.loop-preserved
+loop-preserved g c = leads_on _ _ _ c.loop.invariant c.give_back_all.ensures
