@@ -7,7 +7,6 @@ use Rattle.fb_wire.specs.contracts.run_error.RunError as RunError
 use Rattle.fb_host.specs.contracts.leases.Lease as Lease
 use Rattle.fb_host.specs.contracts.leases.LeaseState as LeaseState
 use Rattle.fb_host.specs.contracts.leases.Leases as Leases
-use Rattle.fb_host.specs.contracts.notices.Counts as Counts
 use Rattle.fb_host.specs.contracts.notices.Notice as Notice
 use Rattle.fb_host.specs.contracts.notices.NoticeState as NoticeState
 use Rattle.fb_host.specs.contracts.notices.Notices as Notices
@@ -69,20 +68,14 @@ leases_field_sync = search (lease_state_send, crosses, sendable) depth 60 fits 2
 error_field_send : IsSend (RunError.the_field).row
 error_field_send = search (crosses, sendable) depth 60 fits 20000
 
-counts_field_send : IsSend (Counts.the_field).row
-counts_field_send = search (crosses, sendable) depth 60 fits 20000
-
-counts_send : IsSend Counts.the_row
-counts_send = search (counts_field_send, crosses, sendable) depth 60 fits 20000
-
 notice_field_send : IsSend (Notice.the_field).row
-notice_field_send = search (error_field_send, counts_send, crosses, sendable) depth 60 fits 20000
+notice_field_send = search (error_field_send, crosses, sendable) depth 60 fits 20000
 
 notice_send : IsSend Notice.the_row
 notice_send = search (notice_field_send, crosses, sendable) depth 60 fits 20000
 
 notice_state_field_send : IsSend (NoticeState.the_field).row
-notice_state_field_send = search (notice_send, counts_send, crosses, sendable) depth 60 fits 20000
+notice_state_field_send = search (notice_send, crosses, sendable) depth 60 fits 20000
 
 notice_state_send : IsSend NoticeState.the_row
 notice_state_send = search (notice_state_field_send, crosses, sendable) depth 60 fits 20000

@@ -121,7 +121,7 @@ fn takes_secret(head: &mut Vec<u8>, secret: &[u8]) -> bool {
     true
 }
 
-/// Whether enough has come to judge the connection: its first line, or, if there is no secret, the line of its first request, or another first byte.
+/// Whether enough was read to check the connection: its first line, or, if there is no secret, the line of its first request, or another first byte.
 fn is_enough(head: &[u8], secret: &[u8]) -> bool {
     if FIRST_LINE_SIZE <= head.len() {
         return true;

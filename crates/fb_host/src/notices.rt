@@ -48,7 +48,7 @@ impl Counts {
     }
 }
 
-/// The lines that wait, in order; what was counted, and since when; when it was last told that no connection is accepted; and whether no further line comes.
+/// The lines that wait, in order; what was counted, and since when; when a line last said that no connection is accepted; and whether no further line comes.
 #[derive(Drop)]
 struct NoticeState {
     lines: Vec<Notice>,
@@ -79,7 +79,7 @@ impl NoticeState {
         Some(self.lines.remove(0))
     }
 
-    /// What was counted, if there is something. It is counted anew from then on.
+    /// What was counted, if there is something. From then on the counts begin again.
     fn counted(&mut self) -> Option<Notice> {
         if self.counts.is_none() {
             return None;
@@ -89,7 +89,7 @@ impl NoticeState {
     }
 }
 
-/// The lines that are to be printed, which threads share.
+/// The lines that wait for the printer, which threads share.
 pub(crate) struct Notices {
     state: Mutex<NoticeState>,
     changed: Condvar,
@@ -147,7 +147,7 @@ impl Notices {
         }
     }
 
-    /// Counts a connection that gets no seat, and whether that is for a wrong secret. It is told once a minute, and at the end.
+    /// Counts a connection that gets no seat, and whether that is for a wrong secret. A line says so once a minute, and at the end.
     pub(crate) fn count_turned_away<R: Wait + Clock>(&self, rt: &R, is_wrong: bool) {
         let mut state = self.state.lock(rt);
         if state.since.is_none() {

@@ -159,7 +159,7 @@ pub(crate) fn run_threads<R: Threads + Wait + Clock + Sync, E: Write + Send>(
     })
 }
 
-/// Lets nobody in any more, and makes those who watch come to an end.
+/// Lets nobody in any more, and ends what those who watch wait for.
 fn end_admission<R: Threads + Wait>(rt: &R, host: &HostState, admission: Started<()>) {
     host.admission.close(rt);
     host.shared.end_watches(rt);
@@ -347,7 +347,7 @@ fn end_visit<R: Wait>(
     }
 }
 
-/// A session. `notice` is then what is to be printed of its end.
+/// A session. `notice` is then the line on its end.
 #[tactic(auto, using(crate::proofs::SessionLemmas::leads))]
 fn serve_connection<R: Wait + Clock>(
     rt: &R,
@@ -387,7 +387,7 @@ fn serve_connection<R: Wait + Clock>(
     state
 }
 
-/// What is to be printed of the end of a session: nothing if its input ended.
+/// The line on the end of a session: none if its input ended.
 fn notice_of(caller: u32, end: RunEnd, is_idle: bool) -> Option<Notice> {
     let error = error_of(end)?;
     if end == RunEnd::ReadFailed && is_idle {

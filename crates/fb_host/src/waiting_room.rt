@@ -71,7 +71,7 @@ impl WaitingRoom {
         }
     }
 
-    /// Notes a connection that begins to wait, and gives its number. Where there is no second hold of its stream or no memory that is 0, and it does not
+    /// Notes a connection that begins to wait, and gives its number. Without a second hold of its stream, or memory, that is 0, and it does not
     /// give way.
     pub(crate) fn enter<R: Wait>(&self, rt: &R, stream: &TcpStream) -> u64 {
         let Ok(stream) = stream.try_clone() else {
