@@ -75,7 +75,7 @@ impl Hold<'_> {
 
     /// Lets the lock go, and waits for a change. Under the lock there must be nothing for which workers are called: who makes something then wakes this one.
     pub(crate) fn wait<R: Wait>(self, rt: &R)
-        requires { calls_workers self.state.now ≡ false }
+        requires { calls_workers self.state.value ≡ false }
     {
         let Self {
             state,
