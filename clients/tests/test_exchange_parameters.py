@@ -90,7 +90,7 @@ class ParametersTest(ExchangeTest):
         self.assertIn('(* MadeFrom: type="PumpUnit" *)\n(* Given: name="Address" value="\'DO.0\'" *)\n', texts(self.lib)["PumpUnit__1.fb"])
         self.assertEqual(faults(self.lib), [])
         self.assertEqual(self.written(), [
-            f"WRITE APP.{it}" for it in ("P1.V.DEST 'DO.0'", "P1.W.DEST 'DO.0'", "P1.W.LIMIT 5", "P2.V.DEST 'DO.1'", "P2.W.DEST 'DO.1'", "P2.W.LIMIT 5",
+            f"WRITE App.{it}" for it in ("P1.V.DEST 'DO.0'", "P1.W.DEST 'DO.0'", "P1.W.LIMIT 5", "P2.V.DEST 'DO.1'", "P2.W.DEST 'DO.1'", "P2.W.LIMIT 5",
                                         "P3.V.DEST 'DO.0'", "P3.W.DEST 'DO.0'", "P3.W.LIMIT 5")
         ])
         back = self.comes_back()
@@ -109,8 +109,8 @@ class ParametersTest(ExchangeTest):
         self.assertEqual(ran.status, 0, ran.lines)
         self.assertEqual(faults(self.lib), [])
         self.assertEqual(self.written(), [
-            "WRITE APP.O.I.P.V.DEST 'DO.9'", "WRITE APP.O.I.P.W.DEST 'DO.9'", "WRITE APP.O.I.P.W.LIMIT 7",
-            "WRITE APP.O.J.P.V.DEST 'DO.9'", "WRITE APP.O.J.P.W.DEST 'DO.9'", "WRITE APP.O.J.P.W.LIMIT 7",
+            "WRITE App.O.I.P.V.DEST 'DO.9'", "WRITE App.O.I.P.W.DEST 'DO.9'", "WRITE App.O.I.P.W.LIMIT 7",
+            "WRITE App.O.J.P.V.DEST 'DO.9'", "WRITE App.O.J.P.W.DEST 'DO.9'", "WRITE App.O.J.P.W.LIMIT 7",
         ])
         back = self.comes_back()
         self.assertEqual(sorted(back), ["Inner.sub", "Outer.sub", "Plant.sys", "Point.dtp", "PumpUnit.sub", "Writer.fbt"])
@@ -155,7 +155,7 @@ class ParametersTest(ExchangeTest):
         ran = self.imported(f'<SubApp Name="Signals"><Parameter Name="Limit" Value="5"/>{inner}</SubApp>', "Signals")
         self.assertEqual(ran.status, 0, ran.lines)
         self.assertEqual(faults(self.lib), [])
-        self.assertEqual(self.written(), ["WRITE APP.SIGNALS.W.LIMIT 5"])
+        self.assertEqual(self.written(), ["WRITE App.Signals.W.LIMIT 5"])
 
     def test_a_name_that_is_taken(self) -> None:
         self.write("xml/PumpUnit__1.fbt", '<FBType Name="PumpUnit__1"><InterfaceList/></FBType>')
