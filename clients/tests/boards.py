@@ -11,7 +11,7 @@ from pathlib import Path
 from typing import Any
 from urllib.parse import urlencode, urlsplit
 
-from support import CLIENTS, workbench
+from support import CLIENTS, WITH_CTRL_C, workbench
 
 PATIENCE = 150
 """Seconds after which something does not come any more."""
@@ -19,10 +19,9 @@ PATIENCE = 150
 
 @contextmanager
 def board(*words: object, folder: Path | None = None, program: str | Path | None = None) -> Iterator[Address]:
-    """A board that runs, of a workbench of its own where the words do not say `--connect`. Ctrl-C ends it even if the tests run in the background of a shell, which lets
-    its programs ignore that."""
+    """A board that runs, of a workbench of its own where the words do not say `--connect`. Ctrl-C ends it."""
     own = [] if "--connect" in words else ["--program", str(program or workbench())]
-    command = ["env", "--default-signal=INT", str(CLIENTS / "board"), *map(str, words), *own]
+    command = [*WITH_CTRL_C, str(CLIENTS / "board"), *map(str, words), *own]
     with subprocess.Popen(command, cwd=folder, stdout=subprocess.PIPE, stderr=subprocess.PIPE, text=True) as process:
         try:
             line = process.stdout.readline()

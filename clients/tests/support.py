@@ -20,6 +20,8 @@ from unittest import TestCase
 from unittest.mock import patch
 
 CLIENTS = Path(__file__).resolve().parents[1]
+WITH_CTRL_C = ("env", "--default-signal=INT")
+"""Before a command: Ctrl-C ends it even if the tests run in the background of a shell, which lets its programs ignore that."""
 CONVEYOR = CLIENTS.parent / "examples" / "conveyor"
 BREAKS = json.loads((CONVEYOR / "breaks.json").read_text())
 sys.path.insert(0, str(CLIENTS / "python"))

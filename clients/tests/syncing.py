@@ -12,7 +12,7 @@ import time
 from collections.abc import Callable
 from pathlib import Path
 
-from support import CLIENTS, free_port, until, workbench
+from support import CLIENTS, WITH_CTRL_C, free_port, until, workbench
 
 from bench61499 import Put, Session
 from bench61499.language.tokens import declared_name
@@ -32,7 +32,7 @@ class Syncing:
     def start(self, *words: str) -> None:
         with open(self.folder.with_suffix(".said"), "ab") as said:
             self._process = subprocess.Popen(
-                [CLIENTS / "sync", self.folder, "--connect", f":{self._port}", *words], stdin=subprocess.DEVNULL, stdout=said, stderr=subprocess.STDOUT)
+                [*WITH_CTRL_C, CLIENTS / "sync", self.folder, "--connect", f":{self._port}", *words], stdin=subprocess.DEVNULL, stdout=said, stderr=subprocess.STDOUT)
 
     def end(self, number: int = signal.SIGKILL) -> int:
         assert self._process

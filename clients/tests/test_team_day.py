@@ -10,7 +10,7 @@ from subprocess import CompletedProcess
 
 from boards import Viewer, board
 from editing import Editor
-from support import CLIENTS, CONVEYOR, InFolder, run, until
+from support import CLIENTS, CONVEYOR, WITH_CTRL_C, InFolder, run, until
 from syncing import Host, Syncing, team_texts
 from tapping import Tap
 
@@ -114,7 +114,8 @@ class DayTest(InFolder):
         self.history = self.folder / "history"
         self.log_said = self.folder / "log"
         with open(self.log_said, "wb") as said:
-            log = subprocess.Popen([CLIENTS / "log", "--connect", f":{self.tap.port}", "--follow", "--git", self.history], stdout=said, stderr=subprocess.STDOUT)
+            log = subprocess.Popen(
+                [*WITH_CTRL_C, CLIENTS / "log", "--connect", f":{self.tap.port}", "--follow", "--git", self.history], stdout=said, stderr=subprocess.STDOUT)
         self.addCleanup(log.wait)
         self.addCleanup(log.kill)
         for folder in (self.ann.folder, self.ben.folder, cid):
