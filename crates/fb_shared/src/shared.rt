@@ -7,27 +7,32 @@ ghost use Rattle.fb_locked.specs.{Ends.{calls_workers}, Reads.{ReadsAt}, Rolling
 ghost use Rattle.fb_locked.specs.History.declared.reading.Reading.TheVariants.{Events};
 ghost use Rattle.fb_shared.specs.Seated.{unnamed};
 
-use crate::news::News;
 use fb_locked::bench::{Answered, Bench, Identity, Limits, MOST_CALLS, Reading, Request, Showing};
 use fb_locked::jobs::{Finished, Job, Key};
 use fb_locked::library::Change;
 use fb_locked::{Closed, Locked, NotClosed, NotResumed, Receipt, Seat, SharedRefused, close_for};
 use std::alloc::{AllocError, Global};
 use std::marker::Model;
-use std::sync::{Condvar, Mutex, MutexGuard, Wait};
+use std::sync::atomic::{AtomicBool, Ordering};
+use std::sync::{Condvar, CondvarTimeouts, Mutex, MutexGuard, Wait};
 use std::thread;
 use std::time::{Clock, Duration};
 
 /// How many milliseconds a watch gathers further events once there is one, so that not each of many commits wakes all who watch.
 const GATHERING: u64 = 5;
 
+/// How many milliseconds a watch waits at most if the workbench is about to be closed.
+const CLOSING: u64 = 100;
+
 /// A workbench that threads share. Each call holds the lock once. Beside the lock are the number of callers for whom seats were made, the limits with which a
-/// full history begins again, if it does, and the identity of the workbench, 0 if it has none. `changed` wakes workers; those who watch wait for `news`.
+/// full history begins again, if it does, and the identity of the workbench, 0 if it has none. `changed` wakes workers, and `events` those who watch,
+/// who wait no longer if the workbench `is_closing`.
 pub struct Shared {
     pub(crate) state: Mutex<Locked>,
     pub(crate) callers: u32,
     pub(crate) changed: Condvar,
-    pub(crate) news: News,
+    pub(crate) events: Condvar,
+    pub(crate) is_closing: AtomicBool,
     pub(crate) rolls: Option<Limits>,
     pub(crate) workbench: Identity,
 }
@@ -38,7 +43,8 @@ impl Drop for Shared {
             state: _,
             callers: _,
             changed: _,
-            news: _,
+            events: _,
+            is_closing: _,
             rolls: _,
             workbench: _,
         } = self;
@@ -49,27 +55,27 @@ impl Drop for Shared {
 pub(crate) struct Hold<'a> {
     pub(crate) state: MutexGuard<'a, Locked>,
     changed: &'a Condvar,
-    news: &'a News,
+    events: &'a Condvar,
     // the number of the last event when it began
     last_event: u64,
 }
 
 impl Hold<'_> {
     /// Lets the lock go, and wakes the workers that wait, if there is something for them, and those who watch, if its call is an event.
-    pub(crate) fn end<R: Wait>(self, rt: &R) {
+    pub(crate) fn end(self) {
         let Self {
             state,
             changed,
-            news,
+            events,
             last_event,
         } = self;
         if state.calls_workers() {
             changed.notify_all();
         }
-        let event = state.bench().last_event();
+        let has_news = last_event < state.bench().last_event();
         drop(state);
-        if last_event < event {
-            news.announce(rt, event);
+        if has_news {
+            events.notify_all();
         }
     }
 
@@ -80,7 +86,7 @@ impl Hold<'_> {
         let Self {
             state,
             changed,
-            news: _,
+            events: _,
             last_event: _,
         } = self;
         drop(changed.wait(rt, state));
@@ -120,7 +126,8 @@ impl Shared {
             state: Mutex::new(locked),
             callers,
             changed: Condvar::new(),
-            news: News::new(),
+            events: Condvar::new(),
+            is_closing: AtomicBool::new(false),
             rolls: None,
             workbench: Identity { high: 0, low: 0 },
         }
@@ -181,7 +188,7 @@ impl Shared {
         Hold {
             state,
             changed: &self.changed,
-            news: &self.news,
+            events: &self.events,
             last_event,
         }
     }
@@ -225,7 +232,7 @@ impl Shared {
     {
         let mut hold = self.hold(rt);
         let answer = hold.state.commit(seat, changes);
-        hold.end(rt);
+        hold.end();
         answer
     }
 
@@ -240,7 +247,7 @@ impl Shared {
     {
         let mut hold = self.hold(rt);
         let answer = hold.state.take(seat);
-        hold.end(rt);
+        hold.end();
         answer
     }
 
@@ -255,7 +262,7 @@ impl Shared {
     {
         let mut hold = self.hold(rt);
         let answer = hold.state.deliver(seat, finished);
-        hold.end(rt);
+        hold.end();
         answer
     }
 
@@ -270,7 +277,7 @@ impl Shared {
     {
         let mut hold = self.hold(rt);
         let answer = hold.state.give_back(seat, key);
-        hold.end(rt);
+        hold.end();
         answer
     }
 
@@ -280,7 +287,7 @@ impl Shared {
     {
         let mut hold = self.hold(rt);
         let answer = hold.state.ask(seat, key);
-        hold.end(rt);
+        hold.end();
         answer
     }
 
@@ -297,7 +304,7 @@ impl Shared {
     {
         let mut hold = self.hold(rt);
         let answer = hold.state.perform_into(seat, receipts, request);
-        hold.end(rt);
+        hold.end();
         answer
     }
 
@@ -314,7 +321,7 @@ impl Shared {
     {
         let mut hold = self.hold(rt);
         let answer = hold.state.return_held(seat, receipts, key, since);
-        hold.end(rt);
+        hold.end();
         answer
     }
 
@@ -353,13 +360,17 @@ impl Shared {
     /// Waits for an event after this call, but not for longer than this. If a read can show more than there are, it gathers further ones for a short time.
     fn await_news<R: Wait + Clock>(&self, rt: &R, after: u64, wait: Duration) {
         let state = self.state.lock(rt);
-        let has_news = state.bench().has_news(after);
-        let mut last_event = state.bench().last_event();
+        let closing = self.is_closing.load(Ordering::SeqCst);
+        let most = if closing {
+            wait.min(Duration::from_millis(CLOSING))
+        } else {
+            wait
+        };
+        let (state, _timeout) = self.events.wait_timeout_while(rt, state, most, |locked| {
+            !locked.bench().has_news(after) && self.is_closing.load(Ordering::SeqCst) == closing
+        });
+        let behind = state.bench().last_event().saturating_sub(after);
         drop(state);
-        if !has_news {
-            last_event = self.news.after(rt, after, wait);
-        }
-        let behind = last_event.saturating_sub(after);
         if 0 < behind && behind < MOST_CALLS && !wait.is_zero() {
             thread::sleep(rt, Duration::from_millis(GATHERING));
         }
@@ -367,14 +378,17 @@ impl Shared {
 
     /// From now on no watch waits long, so that the sessions of peers that have gone end.
     pub fn end_watches<R: Wait>(&self, rt: &R) {
-        self.news.end_waits(rt);
+        let state = self.state.lock(rt);
+        self.is_closing.store(true, Ordering::SeqCst);
+        drop(state);
+        self.events.notify_all();
     }
 
     /// Makes the workers stop.
     pub fn stop<R: Wait>(&self, rt: &R) {
         let mut hold = self.enter(rt);
         hold.state.stop();
-        hold.end(rt);
+        hold.end();
     }
 
     /// Ends the calls. If a seat or a receipt does not fit, it is refused and hands all back.
@@ -396,7 +410,8 @@ impl Shared {
             state,
             callers,
             changed,
-            news,
+            events,
+            is_closing,
             rolls,
             workbench,
         } = self;
@@ -414,7 +429,8 @@ impl Shared {
                     state: Mutex::new(owner),
                     callers,
                     changed,
-                    news,
+                    events,
+                    is_closing,
                     rolls,
                     workbench,
                 },

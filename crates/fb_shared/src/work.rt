@@ -81,7 +81,7 @@ fn take_job<R: Wait>(rt: &R, shared: &Shared, seat: &mut Seat, receipts: &mut Ve
     if matches!(&look, Look::Nothing) {
         hold.wait(rt);
     } else {
-        hold.end(rt);
+        hold.end();
     }
     look
 }
@@ -122,6 +122,6 @@ fn settle<R: Wait>(
 {
     let mut hold = shared.hold(rt);
     let end = hold.state.settle(seat, receipts, job, finished);
-    hold.end(rt);
+    hold.end();
     end
 }
