@@ -40,9 +40,9 @@ TITLE = "Put the block F_INT_TO_DINT in between"
 
 
 class ConversionTest(LspTest):
-    def shown(self, text: str, capabilities: dict | None = None) -> list[dict]:
+    def shown(self, text: str, capabilities: dict | None = None, source: str = SOURCE, sink: str = SINK) -> list[dict]:
         """The actions for the fault of a text."""
-        for name, its in (("Source", SOURCE), ("Sink", SINK), ("Line", text)):
+        for name, its in (("Source", source), ("Sink", sink), ("Line", text)):
             self.write(f"{name}.fb", its)
         server = self.editor()
         server.start(self.folder, capabilities)
@@ -103,15 +103,7 @@ END_FUNCTION_BLOCK
 
     def test_none_where_nothing_is_converted_or_no_file_can_be_made(self) -> None:
         self.assertEqual(self.shown(LINE), [])
-        self.write("Sink.fb", "")
-        for name, its in (("Source", SOURCE.replace("INT", "DINT")), ("Sink", SINK.replace("DINT", "INT"))):
-            self.write(f"{name}.fb", its)
-        server = self.editor()
-        server.start(self.folder, CAN_CREATE)
-        server.open(self.folder / "Line.fb")
-        server.await_codes(Line=["DATA_TYPE"])
-        shown = server.shown["Line.fb"]
-        self.assertEqual(server.ask("codeAction", self.folder / "Line.fb", range=shown[0]["range"], context={"diagnostics": shown}), [])
+        self.assertEqual(self.shown(LINE, CAN_CREATE, SOURCE.replace("INT", "DINT"), SINK.replace("DINT", "INT")), [])
 
 
 if __name__ == "__main__":

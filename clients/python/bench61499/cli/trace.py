@@ -3,13 +3,12 @@ from __future__ import annotations
 
 import argparse
 import json
-import sys
 from collections.abc import Iterator
 from dataclasses import asdict
 
 from bench61499 import Faulty, Flat, Key, Net, Stopped, WorkbenchError
 from bench61499.cli.asking import Asked, asking
-from bench61499.cli.command import fail, program, read_with_units
+from bench61499.cli.command import fail, program, read_with_units, tell
 from bench61499.cli.draw import NoPicture, why_no_key, why_no_net
 from bench61499.cli.version import add_version
 from bench61499.language.texts import Texts
@@ -31,7 +30,7 @@ def main() -> int:
         for line in [as_json(options.unit, tracing, end, ways)] if options.json else lines(tracing, end, ways):
             print(line)
     except (NoPicture, NoSuchEnd) as error:
-        print(f"trace: {error}", file=sys.stderr)
+        tell(f"trace: {error}")
         return 1
     except (Misuse, WorkbenchError) as error:
         return fail("trace", error)
@@ -71,7 +70,7 @@ def traced(asked: Asked, unit: str) -> Tracing:
     if not isinstance(net, Flat):
         raise NoPicture(why_no_net(asked, unit, net))
     if isinstance(deploy, (Faulty, Stopped)):
-        print(f"trace: {unit} has no plan, so resources and cuts are not known", file=sys.stderr)
+        tell(f"trace: {unit} has no plan, so resources and cuts are not known")
 
     def net_of(inner: str) -> Net | None:
         key: Key = "net", inner
