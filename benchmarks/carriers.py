@@ -1,4 +1,4 @@
-"""Texts of structures and of blocks that carry them, for benchmarks/structures and benchmarks/ratios. None of them has a fault."""
+"""Texts of structures and of blocks that carry them, for texts.py and benchmarks/ratios. None of them has a fault."""
 
 # How many structures are in the chain, and how many blocks carry the last of them.
 SIZES = [(chain, carriers) for chain in (1, 50) for carriers in (1, 100, 2_000)]

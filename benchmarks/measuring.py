@@ -64,9 +64,10 @@ def run(program, lines):
 
 
 @contextlib.contextmanager
-def server(program, verb, *words):
+def server(program, verb, *words, **streams):
     """A server (`serve` or `host`) on a free port, and the port. It is killed at the end if it has not ended by itself."""
-    with subprocess.Popen([program, verb, "--port", "0", "--units", "16384", *words], stdout=subprocess.PIPE) as process:
+    open_to_all = ["--open"] if verb == "host" else []
+    with subprocess.Popen([program, verb, "--port", "0", "--units", "16384", *open_to_all, *words], stdout=subprocess.PIPE, **streams) as process:
         try:
             yield process, int(process.stdout.readline().split(b":")[1])
         finally:
@@ -118,11 +119,20 @@ class Peer:
         self.stream.read()
 
 
-def of_hundred(times, part):
-    """The time that this part of a hundred does not exceed."""
-    return sorted(times)[min(len(times) - 1, len(times) * part // 100)]
+class Heads(list):
+    """The heads of a table, which come before its rows."""
+
+
+def line(cells):
+    """A line of a table."""
+    return f"| {' | '.join(cells)} |"
+
+
+def heads(*names):
+    """Prints the first two lines of a table."""
+    print(f"{line(names)}\n{'|---' * len(names)}|", flush=True)
 
 
 def two(times, unit, digits=0):
     """The median and 99 of 100, in this unit; nothing if there are no times."""
-    return ", ".join(f"{unit * of_hundred(times, part):.{digits}f}" for part in (50, 99)) if times else ""
+    return ", ".join(f"{unit * sorted(times)[len(times) * part // 100]:.{digits}f}" for part in (50, 99)) if times else ""

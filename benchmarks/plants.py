@@ -1,7 +1,6 @@
 """Texts of networks and of a plant, for benchmarks/ratios. None of them has a fault, so that nets are flat and plans are plans."""
 
-LINK = ("ADAPTER LINK\nEVENT_INPUT\n  TAKEN;\nEND_EVENT\nEVENT_OUTPUT\n  OFFER WITH WEIGHT;\nEND_EVENT\n"
-        "VAR_OUTPUT\n  WEIGHT : INT;\nEND_VAR\nEND_ADAPTER\n")
+LINK = ("ADAPTER LINK\nEVENT_INPUT\n  TAKEN;\nEND_EVENT\nEVENT_OUTPUT\n  OFFER WITH WEIGHT;\nEND_EVENT\n" "VAR_OUTPUT\n  WEIGHT : INT;\nEND_VAR\nEND_ADAPTER\n")
 PORTS = ["EVENT_INPUT", "  START WITH LEVEL;", "END_EVENT", "EVENT_OUTPUT", "  DONE WITH HEIGHT;", "END_EVENT",
          "VAR_INPUT", "  LEVEL : INT;", "  LIMIT : INT := 10;", "END_VAR", "VAR_OUTPUT", "  HEIGHT : INT;", "END_VAR"]
 ADAPTERS = ["PLUGS", "  NEXT : LINK;", "END_PLUGS", "SOCKETS", "  BEFORE : LINK;", "END_SOCKETS"]
@@ -40,8 +39,7 @@ def simple_subapplication(name, blocks, inner):
     """A subapplication of these blocks and inner subapplications, pairs of a name and a type, in a row of events and data."""
     names = [instance for instance, _ in [*blocks, *inner]]
     fbs, subapps = ([f"{instance} : {type_name};" for instance, type_name in pairs] for pairs in (blocks, inner))
-    return lines(f"SUBAPPLICATION {name}", *PORTS, *section("FBS", fbs), *section("SUBAPPS", subapps), *row(names, [EVENT, DATA]),
-                 "END_SUBAPPLICATION")
+    return lines(f"SUBAPPLICATION {name}", *PORTS, *section("FBS", fbs), *section("SUBAPPS", subapps), *row(names, [EVENT, DATA]), "END_SUBAPPLICATION")
 
 
 def wide(name, type_name, instances):
@@ -101,8 +99,7 @@ class BlockType:
     def text(self):
         ports = [row.replace(":= 10", f":= {self.limit}") for row in PORTS]
         spare = section("VAR_INPUT", ["SPARE : INT;"] * self.spare)
-        return lines(f"FUNCTION_BLOCK {self.name}", f"(* state of work: {self.remark} *)", *ports, *spare,
-                     *section("VAR", ["COUNT : INT;"]), *ADAPTERS,
+        return lines(f"FUNCTION_BLOCK {self.name}", f"(* state of work: {self.remark} *)", *ports, *spare, *section("VAR", ["COUNT : INT;"]), *ADAPTERS,
                      "EC_STATES", "  IDLE;", "  WORK: STEP -> DONE;", "END_STATES",
                      "EC_TRANSITIONS", "  IDLE TO WORK := START;", "  WORK TO IDLE := NEXT.TAKEN [COUNT > 0];", "END_TRANSITIONS",
                      f"ALGORITHM STEP IN ST:\n  HEIGHT := LEVEL + LIMIT * {self.number};", "  IF COUNT >= 100 THEN",

@@ -39,7 +39,7 @@ class Odd:
         self.r, self.make = rng, make
 
     def library(self):
-        return self.make(self.r, "structures")
+        return self.make(self.r)
 
     def changed(self, texts):
         new = self.library()
@@ -53,7 +53,7 @@ def maker(rng):
         return Plant(rng)
     if kind in ("tokens", "deep"):
         return Odd(rng, token_library if kind == "tokens" else deep_library)
-    return (Gen if kind == "faulty" else Nets)(rng, "structures")
+    return (Gen if kind == "faulty" else Nets)(rng)
 
 
 class Conversation:
@@ -65,7 +65,8 @@ class Conversation:
         self.texts = self.maker.library()
         self.words = self.limits()
         if self.chance(0.02):
-            self.wrong_words()
+            self.words, self.lines, self.status, self.said = self.words + self.pick(WRONG_WORDS), [b'{"op":"take"}'], 2, None
+            self.seen["end: status 2"] += 1
             return
         self.session = lines.session(self.words)
         self.machine = self.session.machine
@@ -90,11 +91,6 @@ class Conversation:
         units = ["--units", str(self.r.randint(1, 8))] if self.chance(0.1) else []
         history = ["--history", str(self.pick([1, 5, 20, 40, 80]))] if self.chance(0.15) else []
         return self.pick([units + history, history + units])
-
-    def wrong_words(self):
-        self.words, self.lines = self.words + self.pick(WRONG_WORDS), [b'{"op":"take"}']
-        self.status, self.said = 2, None
-        self.seen["end: status 2"] += 1
 
     # -- the course of a conversation
     def lead(self):
@@ -214,8 +210,7 @@ class Conversation:
     def wrong_request(self):
         """A request with a member left out or of a wrong sort."""
         request = self.pick([{"op": "ask", "kind": "faults", "unit": "A"}, {"op": "work", "turns": 3}, {"op": "deliver", "job": 1},
-                             {"op": "give_back", "kind": "net", "unit": "A"}, {"op": "checkpoint", "units": 8, "history": 50},
-                             {"op": "commit", "changes": []}])
+                             {"op": "give_back", "kind": "net", "unit": "A"}, {"op": "checkpoint", "units": 8, "history": 50}, {"op": "commit", "changes": []}])
         member = self.pick(list(request))
         if self.chance(0.4):
             del request[member]

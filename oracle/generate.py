@@ -1,69 +1,22 @@
-"""Random small libraries. generate.py SEED COUNT OUT.jsonl [plain|tokens|deep|steps|nets] [plain|structures] writes
-request lines for COUNT libraries one after the other, a script for compare.py, and beside it OUT.json, the list of libraries (name ->
-text) in the same order. With structures units declare and use them, and nets and plans are asked for too. Of
-the kinds steps and nets each library but every eighth is the one before it with a unit or two changed, and all is asked for before the
-work as well; nets have units with hardly a fault, that only hold and carry one another."""
-import json
-import random
-import sys
+"""Random small libraries, as texts by name.
 
-UNITS = ["A", "B", "C", "D", "E", "F", "G", "H_1", "INT", "X"]
-PORTS = ["X", "Y", "Z", "K", "P", "Q", "IN", "ON", "ST", "V", "A"]
-INSTS = ["P", "Q", "F1", "F2", "X", "K", "S"]
-STATES = ["S0", "S1", "S2", "X", "IN"]
-ALGS = ["G", "X", "H", "ST"]
-TYPES = [["BOOL"], ["BOOL"], ["BOOL"], ["INT"], ["INT"], ["INT"], ["INT"], ["DINT"], ["UINT"], ["SINT"], ["LINT"],
-         ["USINT"], ["UDINT"], ["ULINT"], ["WORD"], ["WORD"], ["BYTE"], ["DWORD"], ["LWORD"], ["REAL"], ["REAL"],
-         ["TIME"], ["ANY"], ["ANY"], ["ANY_INT"], ["ANY_"], ["ANYX"], ["STRING"], ["STRING", "[", "10", "]"],
-         ["STRING", "[", "10", "]"], ["STRING", "[", "1_0", "]"], ["INT", "[", "5", "]"], ["ANY", "[", "3", "]"],
-         ["ARRAY", "[", "0", "..", "3", "]", "OF", "INT"], ["ARRAY", "[", "0", "..", "3", "]", "OF", "INT"],
-         ["ARRAY", "[", "0", "..", "3", "]", "OF", "BOOL"], ["ARRAY", "[", "0", "..", "3", "]", "OF", "WORD"],
-         ["ARRAY", "[", "0", "..", "+", "3", "]", "OF", "INT"],
-         ["ARRAY", "[", "0", "..", "1", ",", "-", "1", "..", "2", "]", "OF", "REAL"],
-         ["ARRAY", "[", "0", "..", "3", "]", "OF", "ANY"], ["ARRAY", "[", "0", "..", "3", "]", "OF", "ANY_X"],
-         ["MYTYPE"], ["A"], ["ST"]]
-LITERALS = {
-    "B": ["TRUE", "FALSE", "BOOL#1", "bool#TRUE", "Bool#0"],
-    "I": ["INT#5", "UINT#16#FF", "sint#-1", "ULINT#1_0", "LINT#+3", "dint#7", "USINT#2#1", "UDINT#0"],
-    "W": ["WORD#16#FF", "BYTE#1", "dword#0", "LWORD#2#1010_1010"],
-    "O": ["1.5", "1.5E3", "2.0e-1", "1.5e+10", "T#1s", "TIME#1.5h", "REAL#1.5E+3", "LREAL#-1E-5", "D#2020-01-02",
-          "DT#2020-01-02-10:11:12.5", "TOD#-10:11", "DATE#--1", "'a$'b'", '"s"', "''", "'\u00e4\u20ac'", "\"$\"'\"",
-          "TO#1", "STRING#1", "ANYX#1"],
-    "Num": ["2", "16#FF", "1_0", "00", "01", "1_", "0_", "10", "2#0", "1#0"],
-    "Any": ["0", "1"],
-    "Free": ["ANY#1", "ANY_#2", "any_int#3"],
-}
+Gen(rng) has units of all kinds with faults of all kinds, Nets(rng) units with hardly a fault that only hold and carry one another. library() gives such
+a library, and changed(library) that with a unit or two changed. token_library has odd characters, deep_library has deep nesting."""
+import json
+from pathlib import Path
+
+from oracle import class_of_name
+
+TABLES = json.loads(Path(__file__).with_name("generate.json").read_text())
+UNITS, PORTS, INSTS, STATES, ALGS = (TABLES[it] for it in ("units", "ports", "insts", "states", "algs"))
+ODD, WORDS, SYMS, ELEMENTARY_NAMES = (TABLES[it] for it in ("odd", "words", "syms", "elementary_names"))
+TYPES, LITERALS = [it.split() for it in TABLES["types"]], TABLES["literals"]
 ALL_LITERALS = [x for v in LITERALS.values() for x in v]
-ODD = ["#", "$", "'", '"', "%", "\u00e9", "{", "!", "^", "1..5", "INT#1..5", "D#-", "REAL#1E+", "1.", "1.5e", "1#", "T#",
-       "T#-", "T#1.", "(*", "*)", "(**)", "(*)", "//", "->", "=>", "==", ":=", "@", "_", "0", "1", "::", "..", "...",
-       "\u000c", "\u00a0", "INT#-+1", "LREAL#E-5", "TIME_OF_DAY#:1", "D#1-:2", "REAL#E5+6", "1E5", "1.5E-x"]
-WORDS = """FUNCTION_BLOCK END_FUNCTION_BLOCK ADAPTER SUBAPPLICATION SYSTEM APPLICATION END_APPLICATION DEVICE END_DEVICE
-RESOURCE END_RESOURCE MAPPINGS END_MAPPINGS EVENT_INPUT EVENT_OUTPUT END_EVENT VAR VAR_INPUT VAR_OUTPUT END_VAR PLUGS
-END_PLUGS SOCKETS END_SOCKETS FBS END_FBS SUBAPPS END_SUBAPPS EVENT_CONNECTIONS DATA_CONNECTIONS ADAPTER_CONNECTIONS
-END_CONNECTIONS EC_STATES END_STATES EC_TRANSITIONS END_TRANSITIONS ALGORITHM END_ALGORITHM SERVICE END_SERVICE WITH
-TO ARRAY OF IF THEN ELSIF ELSE END_IF CASE END_CASE FOR BY DO END_FOR WHILE END_WHILE REPEAT UNTIL END_REPEAT EXIT
-RETURN AND OR XOR NOT MOD TRUE FALSE IN ON ST""".split()
-SYMS = [":=", "<=", ">=", "<>", "**", "->", "..", ";", ":", ",", ".", "(", ")", "[", "]", "=", "<", ">", "+", "-", "*",
-        "/", "&"]
-STRUCTURE_UNITS = UNITS + ["R", "S", "T", "U", "ANY_S", "REAL"]
-# Names of types that never mean a unit, and some that look like them.
-ELEMENTARY_NAMES = """BOOL SINT INT DINT LINT USINT UINT UDINT ULINT BYTE WORD DWORD LWORD ANY ANY_ ANY_BIT REAL LREAL TIME DATE TOD
-TIME_OF_DAY DT DATE_AND_TIME STRING WSTRING ANYX ANY1 CHAR LTIME""".split()
-STRUCTURE_WORDS = ["TYPE", "END_TYPE", "STRUCT", "END_STRUCT"]
 LONG64, LONG65 = "L" * 64, "L" * 65
 
 
 def type_class(ty):
-    if len(ty) > 1:
-        return "O"
-    t = ty[0].upper()
-    if t == "BOOL":
-        return "B"
-    if t in ("BYTE", "WORD", "DWORD", "LWORD"):
-        return "W"
-    if t in ("SINT", "INT", "DINT", "LINT", "USINT", "UINT", "UDINT", "ULINT"):
-        return "I"
-    return "Free" if t == "ANY" or t.startswith("ANY_") else "O"
+    return "O" if len(ty) > 1 else class_of_name(ty[0].upper())
 
 
 def type_element(ty):
@@ -71,12 +24,8 @@ def type_element(ty):
 
 
 class Gen:
-    def __init__(self, rng, level="plain"):
-        self.r = rng
-        self.subs = 0
-        self.level, self.structures = level, level != "plain"
-        self.units = STRUCTURE_UNITS if self.structures else UNITS
-        self.words = WORDS + STRUCTURE_WORDS if self.structures else WORDS
+    def __init__(self, rng):
+        self.r, self.subs = rng, 0
 
     def chance(self, p):
         return self.r.random() < p
@@ -92,34 +41,25 @@ class Gen:
     def library(self):
         r = self.r
         self.noise = r.choice([0.0, 0.1, 0.3, 0.6, 1.0, 1.0])
-        names = r.sample(self.units, r.randint(3, 8))
-        self.plan, self.odd = {}, None
-        if self.structures:
-            if self.chance(0.3):
-                self.odd = self.pick(ELEMENTARY_NAMES)
-                names = [n for n in names if n != self.odd] + [self.odd]
-            self.plan = {n: dict(kind=self.kind()) for n in names}
+        names, self.odd = r.sample(UNITS, r.randint(3, 8)), None
+        if self.chance(0.3):
+            self.odd = self.pick(ELEMENTARY_NAMES)
+            names = [n for n in names if n != self.odd] + [self.odd]
+        self.plan = {n: dict(kind=self.kind()) for n in names}
         for n in names:
-            kind = self.plan[n]["kind"] if self.structures else self.kind()
-            self.plan[n] = self.interface(kind, n)
-        for n, p in self.plan.items():
-            self.instances(n, p)
-        out = {}
-        for n in names:
-            out[n] = self.text(n)
-        return out
+            self.plan[n] = self.interface(self.plan[n]["kind"], n)
+        for p in self.plan.values():
+            self.instances(p)
+        return {n: self.text(n) for n in names}
 
     def kind(self):
-        kinds, weights = ["basic", "composite", "adapter", "subapp", "system"], [30, 22, 20, 18, 10]
-        if self.structures:
-            kinds, weights = kinds + ["structure"], [30, 12, 16, 10, 5, 32]
-        return self.r.choices(kinds, weights)[0]
+        return self.r.choices(["basic", "composite", "adapter", "subapp", "system", "structure"], [30, 12, 16, 10, 5, 32])[0]
 
     def changed(self, lib):
         """A library with a unit or two put again, put for the first time or removed; the plans follow."""
         lib = dict(lib)
         for _ in range(self.several(1, 2)):
-            n = self.pick(list(lib)) if self.chance(0.75) else self.pick(self.units)
+            n = self.pick(list(lib)) if self.chance(0.75) else self.pick(UNITS)
             if n in lib and len(lib) > 1 and self.chance(0.15):
                 del lib[n], self.plan[n]
                 continue
@@ -127,7 +67,7 @@ class Gen:
                 kind = self.plan[n]["kind"] if n in self.plan and self.chance(0.6) else self.kind()
                 self.plan[n] = dict(kind=kind)
                 self.plan[n] = self.interface(kind, n)
-                self.instances(n, self.plan[n])
+                self.instances(self.plan[n])
             lib[n] = self.text(n)
         return lib
 
@@ -153,17 +93,17 @@ class Gen:
         return p
 
     def type_of_value(self, name):
-        """A type of a variable or field of the unit; with structures half of them are the names of units."""
-        if self.structures and self.odd and self.chance(0.2):
+        """A type of a variable or field of the unit; half of them are the names of units."""
+        if self.odd and self.chance(0.2):
             return self.pick([[self.odd], [self.odd], ["ARRAY", "[", "0", "..", "1", "]", "OF", self.odd], [self.odd, "[", "3", "]"]])
-        if not self.structures or self.chance(0.5):
+        if self.chance(0.5):
             return self.pick(TYPES)
         present = list(self.plan)
         good = [n for n in present if self.plan[n]["kind"] == "structure"]
         if name in good and not self.bad(0.3):
             good = good[good.index(name) + 1:]
         x = self.r.random()
-        n = self.pick(present) if self.bad(0.5) else self.pick(self.units + ["NOPE"])
+        n = self.pick(present) if self.bad(0.5) else self.pick(UNITS + ["NOPE"])
         n = self.pick(good) if good and x < 0.75 else n
         x = self.r.random()
         if x < 0.55:
@@ -172,12 +112,16 @@ class Gen:
             return ["ARRAY", "[", "0", "..", "1"] + self.pick([[], [",", "0", "..", "2"]]) + ["]", "OF", n]
         return [n, "[", "3", "]"]
 
+    def of_role(self, role):
+        """The units that an instance of this role may have as its type."""
+        kinds = {"plug": ["adapter"], "socket": ["adapter"], "fb": ["basic", "composite"], "sub": ["subapp"]}[role]
+        return [n for n, p in self.plan.items() if p["kind"] in kinds]
+
     def of_kind(self, role):
-        want = {"plug": ("adapter",), "socket": ("adapter",), "fb": ("basic", "composite"), "sub": ("subapp",)}[role]
-        good = [n for n, p in self.plan.items() if p["kind"] in want]
+        good = self.of_role(role)
         if good and not self.bad(0.12):
             return self.pick(good)
-        return self.pick(list(self.plan) + self.units + ["NOPE"])
+        return self.pick(list(self.plan) + UNITS + ["NOPE"])
 
     def some_instances(self, roles, low, high):
         out = []
@@ -186,16 +130,14 @@ class Gen:
             out.append((n, role, self.of_kind(role)))
         return out
 
-    def instances(self, name, p):
+    def instances(self, p):
         k = p["kind"]
         if k == "basic":
             p["insts"] = self.some_instances(["plug", "socket"], 0, 2)
             if self.bad(0.06):
                 p["insts"] += self.some_instances(["fb"], 1, 1)
-        elif k == "composite":
-            p["insts"] = self.some_instances(["plug", "socket", "fb", "fb"], 0, 5)
-        elif k == "subapp":
-            p["insts"] = self.some_instances(["plug", "socket", "fb", "fb", "sub"], 0, 5)
+        elif k in ("composite", "subapp"):
+            p["insts"] = self.some_instances(["plug", "socket", "fb", "fb"] + ["sub"] * (k == "subapp"), 0, 5)
         elif k == "system":
             for a in self.distinct(["APP", "X", "K"], 1, 2):
                 p["apps"].append((a, self.some_instances(["fb", "fb", "sub"], 0, 4)))
@@ -206,7 +148,7 @@ class Gen:
         k = p["kind"]
         word = {"basic": "FUNCTION_BLOCK", "composite": "FUNCTION_BLOCK", "adapter": "ADAPTER",
                 "subapp": "SUBAPPLICATION", "system": "SYSTEM", "structure": "TYPE"}[k]
-        said = name if not self.bad(0.05) else self.pick(self.units + [LONG64])
+        said = name if not self.bad(0.05) else self.pick(UNITS + [LONG64])
         body = self.system(p) if k == "system" else self.fields(p) if k == "structure" else self.sections(p)
         toks = [word, said] + body + ["END_" + word]
         if self.bad(0.07):
@@ -227,10 +169,6 @@ class Gen:
         how = self.several(0, 6)
         if how == 0:
             return toks[:i] + toks[i + 1:]
-        if how == 1:
-            return toks[:i] + [self.pick(self.words + SYMS + ODD)] + toks[i:]
-        if how == 2:
-            return toks[:i] + [self.pick(self.words + SYMS + ODD + [LONG65])] + toks[i + 1:]
         if how == 3:
             return toks[:i]
         if how == 4:
@@ -240,7 +178,8 @@ class Gen:
             toks = list(toks)
             toks[i], toks[j] = toks[j], toks[i]
             return toks
-        return toks + [self.pick(self.words + SYMS + ODD)]
+        odd = self.pick(WORDS + SYMS + ODD + [LONG65] * (how == 2))
+        return toks + [odd] if how == 6 else toks[:i] + [odd] + toks[i + (how == 2):]
 
     def join(self, toks):
         r, out, last = self.r, [], ""
@@ -289,8 +228,6 @@ class Gen:
         if self.chance(0.06):
             parts.append(["SERVICE"] + [self.pick(["X", "FBS", ";", "1", "'a'", ":=", "END_VAR", "(", "#"])
                                         for _ in range(self.several(0, 4))] + ["END_SERVICE"])
-        if k == "adapter":
-            pass
         if self.chance(0.5):
             self.r.shuffle(parts)
         return [t for s in parts for t in s]
@@ -316,10 +253,7 @@ class Gen:
         return out + [";"]
 
     def commas(self, lists):
-        out = []
-        for i, x in enumerate(lists):
-            out += ([","] if i else []) + x
-        return out
+        return [token for it in lists for token in (",", *it)][1:]
 
     def vardecls(self, items):
         out = []
@@ -382,33 +316,25 @@ class Gen:
         return ["("] + self.commas(out) + [")"]
 
     # -- connections
+    def ports(self, p, sort):
+        """The ports of a unit by its plan: each with its side and what it carries. A socket is on the side of inputs."""
+        if sort == "adapter":
+            return [(n, "in" if ro == "socket" else "out", ty) for n, ro, ty in p["insts"] if ro in ("plug", "socket")]
+        return [(x[0], x[1], x[2:]) for x in p["events" if sort == "event" else "vars"] if x[1] != "var"]
+
     def ends(self, p, insts, kind, sort):
         """All ends of a sort as (tokens, side, type) by the plans: side "from" or "to"."""
-        out = []
-        key = "events" if sort == "event" else "vars"
-        flip = {"in": "from", "out": "to"}
-        back = {"in": "to", "out": "from"}
-        if sort == "adapter":
-            if p is not None:
-                out += [([n], "from" if ro == "socket" else "to", ty) for n, ro, ty in insts if ro in ("plug", "socket")]
-            for n, ro, ty in insts:
-                if ro in ("fb", "sub") and ty in self.plan:
-                    for m, ro2, ty2 in self.plan[ty]["insts"]:
-                        if ro2 in ("plug", "socket"):
-                            out.append(([n, ".", m], "from" if ro2 == "plug" else "to", ty2))
-            return out
-        if p is not None:
-            out += [([x[0]], flip[x[1]], x[2:]) for x in p[key] if x[1] != "var"]
+        flip, back = {"in": "from", "out": "to"}, {"in": "to", "out": "from"}
+        out = [([n], flip[side], ty) for n, side, ty in self.ports(p, sort)] if p is not None else []
         for n, ro, ty in insts:
-            if ty in self.plan and (ro in ("fb", "sub") or kind == "block"):
-                d = flip if ro == "plug" else back
-                out += [([n, ".", x[0]], d[x[1]], x[2:]) for x in self.plan[ty][key] if x[1] != "var"]
+            if ty in self.plan and (ro in ("fb", "sub") or kind == "block" and sort != "adapter"):
+                sides = flip if ro == "plug" else back
+                out += [([n, ".", m], sides[side], carried) for m, side, carried in self.ports(self.plan[ty], sort)]
         return out
 
     def connections(self, p, insts, kind):
         out = []
-        for sort, kw in (("event", "EVENT_CONNECTIONS"), ("data", "DATA_CONNECTIONS"),
-                         ("adapter", "ADAPTER_CONNECTIONS")):
+        for sort, kw in (("event", "EVENT_CONNECTIONS"), ("data", "DATA_CONNECTIONS"), ("adapter", "ADAPTER_CONNECTIONS")):
             if self.chance(0.3):
                 continue
             ends = self.ends(p if kind != "app" else None, insts, kind, sort)
@@ -437,10 +363,12 @@ class Gen:
             return self.pick(same) if same and self.chance(0.6) else self.pick(right)
         if ends and x < 0.88:
             return self.pick(ends)
-        return ([self.pick(PORTS)] if self.chance(0.4) else
-                [self.pick(INSTS), ".", self.pick(PORTS + INSTS)], "", None)
+        return ([self.pick(PORTS)] if self.chance(0.4) else [self.pick(INSTS), ".", self.pick(PORTS + INSTS)], "", None)
 
     # -- systems
+    def declared(self, word, name, ty):
+        return [word, name, ":", ty] + (self.params("A") if self.chance(0.1) else []) + ([";"] if self.chance(0.3) else [])
+
     def system(self, p):
         parts, paths = [], []
         for a, insts in p["apps"]:
@@ -453,22 +381,16 @@ class Gen:
         devs = []
         for d in self.distinct(["D1", "D2", "X"], 0, 2):
             res = self.distinct(["R1", "R2", "X"], 0, 3)
-            s = ["DEVICE", d, ":", "DT"] + (self.params("A") if self.chance(0.1) else [])
-            s += [";"] if self.chance(0.3) else []
+            s = self.declared("DEVICE", d, "DT")
             for x in res:
-                s += ["RESOURCE", x, ":", "RT"] + (self.params("A") if self.chance(0.1) else [])
-                s += ([";"] if self.chance(0.3) else []) + ["END_RESOURCE"]
+                s += self.declared("RESOURCE", x, "RT") + ["END_RESOURCE"]
             parts.append(s + ["END_DEVICE"])
             devs += [(d, x) for x in res]
         items = []
         for _ in range(self.several(0, 5)):
-            path = self.pick(paths) if paths and not self.bad(0.2) else [self.pick(["APP", "ON", "X", "Q"])
-                                                                        for _ in range(self.several(1, 4))]
+            path = self.pick(paths) if paths and not self.bad(0.2) else [self.pick(["APP", "ON", "X", "Q"]) for _ in range(self.several(1, 4))]
             d = self.pick(devs) if devs and not self.bad(0.2) else (self.pick(["D1", "D2", "X"]), self.pick(["R1", "X"]))
-            dotted = []
-            for i, x in enumerate(path):
-                dotted += (["."] if i else []) + [x]
-            items.append(dotted + ["ON", d[0], ".", d[1], ";"])
+            items.append([*" . ".join(path).split(), "ON", d[0], ".", d[1], ";"])
         parts += self.split("MAPPINGS", items, "END_MAPPINGS")
         if self.chance(0.4):
             self.r.shuffle(parts)
@@ -530,7 +452,7 @@ class Gen:
     def variables(self, p):
         out = [([n], t) for n, _, t in p["vars"]]
         for n, ro, ty in p["insts"]:
-            if self.structures and ro not in ("plug", "socket") and not self.bad(0.3):
+            if ro not in ("plug", "socket") and not self.bad(0.3):
                 continue
             out += [([n, ".", v[0]], v[2]) for v in self.plan.get(ty, {"vars": []})["vars"]]
         return out
@@ -538,88 +460,66 @@ class Gen:
     def algorithm(self, p, a):
         self.scope = self.variables(p)
         if self.chance(0.07):
-            junk = [self.pick(["X", ":=", "IF", "FBS", "'a'", "1", "#", "END_IF", "(", "END_SERVICE"])
-                    for _ in range(self.several(0, 5))]
+            junk = [self.pick(["X", ":=", "IF", "FBS", "'a'", "1", "#", "END_IF", "(", "END_SERVICE"]) for _ in range(self.several(0, 5))]
             return ["ALGORITHM", a, "IN", self.pick(["LD", "JAVA", "IN"])] + junk + ["END_ALGORITHM"]
-        body = []
-        for _ in range(self.several(0, 5)):
-            body += self.stmt(self.several(0, 2))
-        if self.chance(0.03):
-            body += self.deep()
-        return ["ALGORITHM", a, "IN", "ST"] + ([":"] if self.chance(0.7) else []) + body + ["END_ALGORITHM"]
+        body = self.repeated(0, 5, lambda: self.stmt(self.several(0, 2))) + (self.deep() if self.chance(0.03) else [])
+        return ["ALGORITHM", a, "IN", "ST", *([":"] if self.chance(0.7) else []), *body, "END_ALGORITHM"]
 
     def deep(self):
         """Nesting near level 64."""
         ifs, total = self.several(0, 66), self.several(62, 65)
-        parens = max(0, total - ifs)
         kinds = [self.pick(["IF", "WHILE", "FOR", "REPEAT", "CASE"]) for _ in range(ifs)]
-        heads = {"IF": ["IF", "TRUE", "THEN"], "WHILE": ["WHILE", "TRUE", "DO"], "REPEAT": ["REPEAT"],
-                 "FOR": ["FOR", "X", ":=", "1", "TO", "2", "DO"], "CASE": ["CASE", "1", "OF", "1", ":"]}
-        tails = {"IF": ["END_IF"], "WHILE": ["END_WHILE"], "REPEAT": ["UNTIL", "X", "END_REPEAT"], "FOR": ["END_FOR"],
-                 "CASE": ["END_CASE"]}
-        out = []
-        for k in kinds:
-            out += heads[k]
-        inner = [self.pick(["X", "1", "X"])]
-        if self.structures:
-            inner = self.pick([["X"], ["1"], ["X", ".", "F"], ["X", ".", "F", ".", "G"], ["X", "[", "1", "]"],
-                               ["X", ".", "F", "[", "1", "]"]])
-        for i in range(parens):
-            inner = ["("] + inner + [")"] if self.chance(0.7) else ["X", "["] + inner + ["]"]
-            if self.structures and inner[0] == "X" and self.chance(0.5):
-                inner = self.pick([inner + [".", "F"], ["X", "."] + inner])
-        out += ["X", ":="] + inner + [";"]
-        for k in reversed(kinds):
-            out += tails[k]
-        return out
+        heads = {"IF": "IF TRUE THEN", "WHILE": "WHILE TRUE DO", "REPEAT": "REPEAT", "FOR": "FOR X := 1 TO 2 DO", "CASE": "CASE 1 OF 1 :"}
+        tails = {it: "END_" + it for it in heads} | {"REPEAT": "UNTIL X END_REPEAT"}
+        inner = self.pick(["X", "1", "X . F", "X . F . G", "X [ 1 ]", "X . F [ 1 ]"]).split()
+        for _ in range(total - ifs):
+            inner = ["(", *inner, ")"] if self.chance(0.7) else ["X", "[", *inner, "]"]
+            if inner[0] == "X" and self.chance(0.5):
+                inner = self.pick([[*inner, ".", "F"], ["X", ".", *inner]])
+        return [*" ".join(heads[it] for it in kinds).split(), "X", ":=", *inner, ";", *" ".join(tails[it] for it in reversed(kinds)).split()]
+
+    def repeated(self, low, high, make):
+        """Some of what is made, one after the other."""
+        return [t for _ in range(self.several(low, high)) for t in make()]
 
     def block(self, depth):
-        out = []
-        for _ in range(self.several(0, 2)):
-            out += self.stmt(depth)
-        return out
+        return self.repeated(0, 2, lambda: self.stmt(depth))
 
     def stmt(self, depth):
         x = self.several(0, 19)
-        d = depth - 1
+        if x < 2:
+            return [*self.pick([[], ["EXIT"], ["RETURN"]]), ";"]
         if depth <= 0 or x < 8:
-            if x == 0:
-                return [";"]
-            if x == 1:
-                return [self.pick(["EXIT", "RETURN"]), ";"]
             ref, cls = self.reference()
-            return ref + [":="] + self.expr(cls, self.several(0, 2)) + [";"]
-        semi = [";"] if self.chance(0.7) else []
-        if x < 11:
-            s = ["IF"] + self.expr("B", d) + ["THEN"] + self.block(d)
-            for _ in range(self.several(0, 1)):
-                s += ["ELSIF"] + self.expr("B", d) + ["THEN"] + self.block(d)
-            if self.chance(0.4):
-                s += ["ELSE"] + self.block(d)
-            return s + ["END_IF"] + semi
-        if x < 13:
-            s = ["CASE"] + self.expr(self.pick(["I", "I", "W", "O", "Any"]), d) + ["OF"]
-            for _ in range(self.several(1, 2)):
-                labels = []
-                for _ in range(self.several(1, 2)):
-                    la = self.label()
-                    if self.chance(0.3):
-                        la = la + [".."] + self.label()
-                    labels.append(la)
-                s += self.commas(labels) + [":"] + self.block(d)
-            if self.chance(0.4):
-                s += ["ELSE"] + self.block(d)
-            return s + ["END_CASE"] + semi
-        if x < 16:
-            good = [v[0][0] for v in self.scope if len(v[0]) == 1 and type_class(v[1]) == "I"]
-            n = self.pick(good) if good and not self.bad(0.3) else self.pick(PORTS)
-            s = ["FOR", n, ":="] + self.expr("I", d) + ["TO"] + self.expr("I", d)
-            if self.chance(0.4):
-                s += ["BY"] + self.expr("I", d)
-            return s + ["DO"] + self.block(d) + ["END_FOR"] + semi
-        if x < 18:
-            return ["WHILE"] + self.expr("B", d) + ["DO"] + self.block(d) + ["END_WHILE"] + semi
-        return ["REPEAT"] + self.block(d) + ["UNTIL"] + self.expr("B", d) + ["END_REPEAT"] + semi
+            return [*ref, ":=", *self.expr(cls, self.several(0, 2)), ";"]
+        word = "IF" if x < 11 else "CASE" if x < 13 else "FOR" if x < 16 else "WHILE" if x < 18 else "REPEAT"
+        return [word, *getattr(self, word.lower() + "_")(depth - 1), "END_" + word, *([";"] if self.chance(0.7) else [])]
+
+    def otherwise(self, d):
+        return ["ELSE", *self.block(d)] if self.chance(0.4) else []
+
+    def if_(self, d):
+        return [*self.expr("B", d), "THEN", *self.block(d),
+                *self.repeated(0, 1, lambda: ["ELSIF", *self.expr("B", d), "THEN", *self.block(d)]), *self.otherwise(d)]
+
+    def case_(self, d):
+        return [*self.expr(self.pick(["I", "I", "W", "O", "Any"]), d), "OF",
+                *self.repeated(1, 2, lambda: [*self.labels(), ":", *self.block(d)]), *self.otherwise(d)]
+
+    def for_(self, d):
+        good = [v[0][0] for v in self.scope if len(v[0]) == 1 and type_class(v[1]) == "I"]
+        n = self.pick(good) if good and not self.bad(0.3) else self.pick(PORTS)
+        by = ["BY", *self.expr("I", d)] if self.chance(0.4) else []
+        return [n, ":=", *self.expr("I", d), "TO", *self.expr("I", d), *by, "DO", *self.block(d)]
+
+    def while_(self, d):
+        return [*self.expr("B", d), "DO", *self.block(d)]
+
+    def repeat_(self, d):
+        return [*self.block(d), "UNTIL", *self.expr("B", d)]
+
+    def labels(self):
+        return self.commas([[*self.label(), *(["..", *self.label()] if self.chance(0.3) else [])] for _ in range(self.several(1, 2))])
 
     def label(self):
         x = self.r.random()
@@ -628,37 +528,14 @@ class Gen:
         n = self.pick(["0", "1", "16#FF", "1.5", "7"])
         return [self.pick("+-"), n] if x < 0.5 else [n]
 
-    def reference(self, cls=None):
-        """A reference (tokens) and its class; of class cls if there is one and chance decides so."""
-        if self.structures:
-            return self.path(cls)
-        good = []
-        for n, t in self.scope:
-            if cls is None or type_class(t) == cls:
-                good.append((n, type_class(t)))
-            el = type_element(t)
-            if el is not None and (cls is None or el == cls):
-                good.append((n, el, True))
-        if not good and cls is not None and not self.bad(1):
-            return [self.pick(LITERALS[cls])], cls
-        if not good or self.bad(0.05):
-            n = [self.pick(PORTS)] if self.chance(0.6) else [self.pick(INSTS), ".", self.pick(PORTS)]
-            good = [(n, "Free", self.chance(0.2))]
-        g = self.pick(good)
-        out = list(g[0])
-        if (len(g) > 2 and g[2]) or self.bad(0.03):
-            out += self.subscripts()
-        return out, g[1]
-
     def subscripts(self):
         self.subs += 1
         deep = self.subs > 2
-        out = ["["] + self.commas([[self.pick(LITERALS["Num"])] if deep else self.expr("I", self.several(0, 1))
-                                   for _ in range(self.several(1, 2))]) + ["]"]
+        out = ["["] + self.commas([[self.pick(LITERALS["Num"])] if deep else self.expr("I", self.several(0, 1)) for _ in range(self.several(1, 2))]) + ["]"]
         self.subs -= 1
         return out
 
-    def path(self, cls):
+    def reference(self, cls=None):
         """A reference that may go through fields (tokens) and its class: the first of some tries that has class cls."""
         for _ in range(6 if self.scope or cls is None or self.bad(1) else 0):
             walk, got = self.walk()
@@ -688,8 +565,6 @@ class Gen:
             fields = self.fields_of(ty) if subscripted == array else None
             if not (self.chance(0.7) if fields else self.chance(0.2) if unjudged else self.bad(0.15)):
                 return out, self.class_at_end(ty, array, subscripted)
-            if self.level == "read" and len(out) == 1 and self.chance(0.6):
-                return out, self.class_at_end(ty, array, subscripted)
             name, ty = self.one_with_fields(fields) if fields and not self.bad(0.1) else (self.pick(PORTS), None)
             out += [".", name]
         return out, "Free"
@@ -702,9 +577,7 @@ class Gen:
     def class_at_end(self, ty, array, subscripted):
         if ty is None:
             return "Free"
-        if subscripted:
-            return type_element(ty) if array else "O"
-        return type_class(ty)
+        return type_class(ty) if not subscripted else type_element(ty) if array else "O"
 
     def fields_of(self, ty):
         """The fields of a type that is no array, or of the elements of an array, by the plans."""
@@ -721,8 +594,7 @@ class Gen:
                 return self.reference(cls)[0]
             if self.bad(0.1):
                 return [self.pick(ALL_LITERALS)]
-            near = {"B": ["B", "Any"], "I": ["I", "Num", "Any"], "W": ["W", "Num", "Any"], "O": ["O", "O", "I", "Num"],
-                    "Num": ["Num"], "Any": ["Any"], "Free": ["Free"]}[cls]
+            near = {"B": ["B", "Any"], "I": ["I", "Num", "Any"], "W": ["W", "Num", "Any"], "O": ["O", "O", "I", "Num"]}.get(cls, [cls])
             return [self.pick(LITERALS[self.pick(near)])]
         d = depth - 1
         x = self.r.random()
@@ -733,80 +605,43 @@ class Gen:
             if self.bad(0.1):
                 op = self.pick(["NOT", "+", "-"])
             return [op] + (self.expr(cls, 0) if self.chance(0.5) else ["("] + self.expr(cls, d) + [")"])
-        logic, arith = ["OR", "XOR", "AND", "&"], ["+", "-", "*", "/", "**", "MOD"]
-        if cls == "B":
-            ops = logic if self.chance(0.5) else ["=", "<>", "<", ">", "<=", ">="]
-        elif cls == "W":
-            ops = logic
-        elif cls == "O":
-            ops = arith[:5]
-        else:
-            ops = arith
+        logic, arith, compare = ["OR", "XOR", "AND", "&"], ["+", "-", "*", "/", "**", "MOD"], ["=", "<>", "<", ">", "<=", ">="]
+        ops = (logic if self.chance(0.5) else compare) if cls == "B" else {"W": logic, "O": arith[:5]}.get(cls, arith)
         op = self.pick(ops)
         if self.bad(0.04):
             op = self.pick(logic + arith + ["=", "<"])
-        sub = self.pick(["B", "I", "W", "O"]) if op in ("=", "<>", "<", ">", "<=", ">=") else cls
+        sub = self.pick(["B", "I", "W", "O"]) if op in compare else cls
         out = self.expr(sub, d) + [op] + self.expr(sub, d)
         if self.chance(0.25):
             out += [self.pick(ops)] + self.expr(sub, d)
         return out
 
 
-PREFIXES = ["", "FUNCTION_BLOCK %s ", "FUNCTION_BLOCK %s VAR X:INT:=", "FUNCTION_BLOCK %s VAR X:ARRAY[0..1] OF BOOL:=[1,",
-            "FUNCTION_BLOCK %s VAR X:INT;END_VAR ALGORITHM A IN ST X:=", "FUNCTION_BLOCK %s SERVICE ",
-            "FUNCTION_BLOCK %s ALGORITHM A IN LD ", "FUNCTION_BLOCK %s EC_TRANSITIONS A TO B:=", "ADAPTER ",
-            "FUNCTION_BLOCK %s VAR X:INT;END_VAR ALGORITHM A IN ST CASE X OF ", "FUNCTION_BLOCK %s VAR X:",
-            "FUNCTION_BLOCK %s VAR X:INT;END_VAR ALGORITHM A IN ST X:=1+", "SYSTEM %s MAPPINGS ",
-            "FUNCTION_BLOCK %s VAR X:BOOL;END_VAR ALGORITHM A IN ST IF ", "FUNCTION_BLOCK %s VAR X:ARRAY["]
-SUFFIXES = ["", ";END_VAR END_FUNCTION_BLOCK", "]; END_VAR END_FUNCTION_BLOCK", ";END_ALGORITHM END_FUNCTION_BLOCK",
-            " END_SERVICE END_FUNCTION_BLOCK", " END_ALGORITHM END_FUNCTION_BLOCK", ";END_TRANSITIONS END_FUNCTION_BLOCK",
-            " END_FUNCTION_BLOCK", ":END_CASE END_ALGORITHM END_FUNCTION_BLOCK", "*)", " "]
-FAMILY = {2: [1], 3: [2], 4: [3], 5: [4], 6: [5], 7: [6], 8: [7], 9: [8], 10: [1], 11: [3], 13: [3], 14: [2]}
-ATOMS = list("aEe_19#.+-:'\"$(*)/<>=&;, \t\r\n\u00e9\u20ac") + ["T#", "D#", "REAL#", "lreal#", "DT#", "1.5", "E+", "e-", "..",
-        "(*", "*)", "//", "INT#1", "16#", "TRUE", "X", "**", ":=", "->", "$'", "time_of_day#", "#1", "A" * 64, "A" * 65,
-        "\U0001f600", "\x0b", "\x00", "\x7f", "NOT", "[", "]", "Date_And_Time#", "D", "1_", "0"]
-
-
-USES = "FUNCTION_BLOCK %s VAR X:A;END_VAR ALGORITHM A IN ST X"
-STRUCTURE_PREFIXES = ["TYPE ", "TYPE %s ", "TYPE %s:STRUCT ", "TYPE %s:STRUCT X:INT;END_STRUCT", "TYPE %s:STRUCT X:", USES,
-                      USES + ".", USES + "[0].F", USES + ":="]
-STRUCTURE_SUFFIXES = [" END_STRUCT END_TYPE", ";END_STRUCT;END_TYPE", " END_TYPE",
-                      ":=1;END_ALGORITHM END_FUNCTION_BLOCK", ";END_ALGORITHM END_FUNCTION_BLOCK", ""]
-STRUCTURE_FAMILY = [[0, 2], [0, 1], [0, 1], [2], [0, 1], [3], [3], [3], [4]]
-STRUCTURE_ATOMS = ATOMS + [".", "X.Y", ".F", "[0]", "[", "]", ";;", "TYPE", "end_struct", "STRUCT", ":", ";", "X:INT;", "A",
-                           "[1,2].G"] * 2
-
-
-def token_library(rng, level="plain"):
+def token_library(rng):
     """Units with odd characters at one place each."""
+    prefixes, suffixes, family, atoms = (TABLES[it] for it in ("prefixes", "suffixes", "family", "atoms"))
     out = {}
     for n in UNITS[:8]:
-        if level != "plain" and rng.random() < 0.6:
-            i = rng.randrange(len(STRUCTURE_PREFIXES))
-            odd = "".join(rng.choice(STRUCTURE_ATOMS) for _ in range(rng.randint(0, 5)))
-            end = STRUCTURE_SUFFIXES[rng.choice(STRUCTURE_FAMILY[i])]
-            out[n] = STRUCTURE_PREFIXES[i].replace("%s", n) + odd + end
-            continue
-        i = rng.randrange(len(PREFIXES))
-        j = rng.choice(FAMILY[i]) if i in FAMILY and rng.random() < 0.75 else rng.randrange(len(SUFFIXES))
-        odd = "".join(rng.choice(ATOMS) for _ in range(rng.randint(1, 9)))
-        out[n] = PREFIXES[i].replace("%s", n) + odd + SUFFIXES[j]
+        if rng.random() < 0.6:
+            i = rng.randrange(len(TABLES["structure_prefixes"]))
+            odd = "".join(rng.choice(atoms + TABLES["structure_atoms"]) for _ in range(rng.randint(0, 5)))
+            start, end = TABLES["structure_prefixes"][i], TABLES["structure_suffixes"][rng.choice(TABLES["structure_family"][i])]
+        else:
+            i = rng.randrange(len(prefixes))
+            j = rng.choice(family[i]) if family[i] and rng.random() < 0.75 else rng.randrange(len(suffixes))
+            odd = "".join(rng.choice(atoms) for _ in range(rng.randint(1, 9)))
+            start, end = prefixes[i], suffixes[j]
+        out[n] = start.replace("%s", n) + odd + end
     return out
 
 
-def deep_library(rng, level="plain"):
+def deep_library(rng):
     """Units with nesting near level 64."""
-    g = Gen(rng, level)
-    types = [["INT"], ["BOOL"]]
-    out = {}
-    if g.structures:
-        types += [["S"], ["ARRAY", "[", "0", "..", "1", "]", "OF", "S"]]
-        out["S"] = "TYPE S:STRUCT F:ARRAY[0..1]OF INT;X:ARRAY[0..1]OF S;END_STRUCT END_TYPE"
+    g, types = Gen(rng), [["INT"], ["BOOL"], ["S"], ["ARRAY", "[", "0", "..", "1", "]", "OF", "S"]]
+    out = {"S": "TYPE S:STRUCT F:ARRAY[0..1]OF INT;X:ARRAY[0..1]OF S;END_STRUCT END_TYPE"}
     for n in UNITS[:4]:
-        g.noise = 0.0
-        text = g.join(["FUNCTION_BLOCK", n, "VAR", "X", ":"] + rng.choice(types) + [";", "END_VAR", "ALGORITHM", "A",
-                       "IN", "ST"] + g.deep() + ["END_ALGORITHM", "END_FUNCTION_BLOCK"])
-        out[n] = text
+        out[n] = g.join(["FUNCTION_BLOCK", n, "VAR", "X", ":", *rng.choice(types), ";", "END_VAR", "ALGORITHM", "A", "IN", "ST",
+                         *g.deep(), "END_ALGORITHM", "END_FUNCTION_BLOCK"])
     return out
 
 
@@ -814,23 +649,24 @@ class Nets:
     """Units of all kinds that hold one another as instances and carry one another as values, and nothing else."""
     HEADS = {"block": "FUNCTION_BLOCK", "subapp": "SUBAPPLICATION", "adapter": "ADAPTER", "system": "SYSTEM", "structure": "TYPE"}
 
-    def __init__(self, rng, level):
-        self.r, self.names = rng, STRUCTURE_UNITS
-        self.kinds = ["block"] * 4 + ["subapp"] * 3 + ["system", "adapter"] + ["structure"] * (0 if level == "plain" else 4)
+    KINDS = ["block"] * 4 + ["subapp"] * 3 + ["system", "adapter"] + ["structure"] * 4
+
+    def __init__(self, rng):
+        self.r = rng
 
     def library(self):
-        self.plan = {n: self.r.choice(self.kinds) for n in self.r.sample(self.names, self.r.randint(3, 8))}
+        self.plan = {n: self.r.choice(self.KINDS) for n in self.r.sample(UNITS, self.r.randint(3, 8))}
         return {n: self.text(n) for n in self.plan}
 
     def changed(self, lib):
         lib = dict(lib)
         for _ in range(self.r.randint(1, 2)):
-            n = self.r.choice(list(lib) if self.r.random() < 0.8 else self.names)
+            n = self.r.choice(list(lib) if self.r.random() < 0.8 else UNITS)
             if n in lib and len(lib) > 1 and self.r.random() < 0.2:
                 del lib[n], self.plan[n]
                 continue
             if n not in self.plan or self.r.random() < 0.3:
-                self.plan[n] = self.r.choice(self.kinds)
+                self.plan[n] = self.r.choice(self.KINDS)
             lib[n] = self.text(n)
         return lib
 
@@ -839,13 +675,13 @@ class Nets:
         items, good = [], [n for n, k in self.plan.items() if k == kind]
         for i in range(self.r.randint(low, high)):
             if good or self.r.random() < 0.1:
-                n = self.r.choice(good) if good and self.r.random() < 0.97 else self.r.choice(self.names)
+                n = self.r.choice(good) if good and self.r.random() < 0.97 else self.r.choice(UNITS)
                 items.append("%s%d:%s; " % (section[0], i, n))
         return "%s %sEND_%s " % (section, "".join(items), section) if items else ""
 
     def values(self, low, high):
         forms = ["F%d:%s; ", "F%d:ARRAY[0..1] OF %s; ", "F%d:%s[2]; "]
-        return "".join(self.r.choice(forms) % (i, self.r.choice(list(self.plan) if self.r.random() < 0.85 else self.names))
+        return "".join(self.r.choice(forms) % (i, self.r.choice(list(self.plan) if self.r.random() < 0.85 else UNITS))
                        for i in range(self.r.randint(low, high)))
 
     def text(self, name):
@@ -856,65 +692,5 @@ class Nets:
         data = "VAR_INPUT %sEND_VAR " % self.values(0, 2)
         body = {"block": self.held("FBS", "block", 0, 1) + self.held("PLUGS", "adapter", 0, 1) + data,
                 "subapp": self.held("FBS", "block", 0, 2) + self.held("SUBAPPS", "subapp", 0, 1) + data,
-                "system": "APPLICATION P %sEND_APPLICATION " % (self.held("FBS", "block", 0, 2) + self.held("SUBAPPS", "subapp", 0, 2)),
-                "adapter": data}[kind]
+                "system": "APPLICATION P %sEND_APPLICATION " % (self.held("FBS", "block", 0, 2) + self.held("SUBAPPS", "subapp", 0, 2)), "adapter": data}[kind]
         return "%s %s %sEND_%s" % (head, name, body, head)
-
-
-def step_libraries(g, count):
-    """Libraries that are the one before with a unit or two changed, with a new one now and then."""
-    out = []
-    while len(out) < count:
-        lib = g.changed(out[-1]) if len(out) % 8 else g.library()
-        if not out or lib != out[-1]:
-            out.append(lib)
-    return out
-
-
-def questions(lib, level, steps):
-    """What is asked of a library, in order."""
-    kinds = ["faults", "net", "deploy"] if steps or level != "plain" else ["faults"]
-    return [(k, n) for k in kinds for n in lib]
-
-
-def requests(libraries, level="plain", steps=False):
-    """Request lines for the libraries one after the other, and the names asked of each."""
-    lines, revision, commits, before = [], {}, 0, {}
-    for lib in libraries:
-        changes = [{"remove": n, "base": revision.pop(n)} for n in list(revision) if n not in lib]
-        if changes and len(changes) + len(lib) > 16:
-            commits += 1
-            lines.append({"op": "commit", "changes": changes})
-            changes = []
-        put = {n: t for n, t in lib.items() if not steps or before.get(n) != t}
-        changes += [{"put": n, "base": revision.get(n, 0), "text": t} for n, t in put.items()]
-        before = lib
-        commits += 1
-        for n in put:
-            revision[n] = commits
-        asks = [{"op": "ask", "kind": k, "unit": n} for k, n in questions(lib, level, steps)]
-        lines.append({"op": "commit", "changes": changes})
-        lines += asks if steps else []
-        lines.append({"op": "work", "turns": 1000})
-        lines += asks
-    return "".join(json.dumps(x, ensure_ascii=False) + "\n" for x in lines)
-
-
-def main():
-    seed, count, out = int(sys.argv[1]), int(sys.argv[2]), sys.argv[3]
-    kind = sys.argv[4] if len(sys.argv) > 4 else "plain"
-    level = sys.argv[5] if len(sys.argv) > 5 else "plain"
-    assert level in ("plain", "structures"), level
-    g = Gen(random.Random(seed), level)
-    make = {"plain": g.library, "tokens": lambda: token_library(g.r, level), "deep": lambda: deep_library(g.r, level)}
-    steps = kind in ("steps", "nets")
-    g = Nets(g.r, level) if kind == "nets" else g
-    libs = step_libraries(g, count) if steps else [make[kind]() for _ in range(count)]
-    with open(out, "w") as f:
-        f.write(requests(libs, level, steps))
-    with open(out.rsplit(".", 1)[0] + ".json", "w") as f:
-        json.dump(libs, f, ensure_ascii=False)
-
-
-if __name__ == "__main__":
-    main()

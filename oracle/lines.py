@@ -28,14 +28,10 @@ def whole(digits):
 
 
 def finite(digits):
-    """A number that a double holds."""
-    if math.isinf(float(digits)):
-        raise ValueError("out of range")
+    """A number that a double holds, neither NaN nor Infinity."""
+    if not math.isfinite(float(digits)):
+        raise ValueError(digits)
     return float(digits)
-
-
-def no_number(word):
-    raise ValueError(word)
 
 
 def no_deeper(found, levels):
@@ -58,8 +54,7 @@ def members(pairs):
 def read(line):
     """The object that a line is."""
     try:
-        request = json.loads(line.decode(), object_pairs_hook=members, parse_int=whole, parse_float=finite,
-                             parse_constant=no_number)
+        request = json.loads(line.decode(), object_pairs_hook=members, parse_int=whole, parse_float=finite, parse_constant=finite)
     except (ValueError, RecursionError):
         raise Refused("BadRequest") from None
     if not isinstance(request, dict):

@@ -42,7 +42,7 @@ def value(lib, kind, unit):
 
 class Machine:
     def __init__(self, units=1024, history=100_000):
-        self.units, self.history = units, history
+        self.most, self.history = units, history
         self.put, self.commits, self.pending, self.out = {}, 0, set(), set()
         self.earlier, self.calls = 0, 0
         self.lib = oracle.Library({})
@@ -64,7 +64,7 @@ class Machine:
         for change in changes:
             self.is_present(change)
         after = self.with_changes(changes)
-        if len(after) > self.units:
+        if len(after) > self.most:
             raise Refused("TooManyUnits")
         self.commits += 1
         self.move_to(after, {change.unit for change in changes})
@@ -145,5 +145,5 @@ class Machine:
         if self.earlier + self.calls + history > LARGEST_NUMBER:
             raise Refused("NumbersOver")
         self.earlier, self.calls = self.earlier + self.calls, 0
-        self.units, self.history = units, history
+        self.most, self.history = units, history
         return self.earlier

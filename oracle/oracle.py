@@ -1,41 +1,36 @@
 """An independent reading of the language and its 24 faults, written from the rules alone.
 
-faults(library, unit) gives the sorted list of (code, start, end); library maps upper-case names to texts.
-Library(texts) answers more: what a unit mentions, what is near and far, and of nets their form and their blocks
-(networks.py has their links and borders, plans.py the plans).
-COUNT counts what was reached: operators, statements, ends, conditions, kinds of types and constants.
-"""
+Library(texts) maps upper-case names to texts: its faults of a unit are a sorted list of (code, start, end). It answers what a unit mentions, what is near and
+far, and of nets their form and their blocks (networks.py has their links and borders, plans.py the plans)."""
+import math
 import re
 import sys
-from collections import Counter
-from functools import lru_cache
+from functools import lru_cache, reduce
+from itertools import accumulate
+from types import SimpleNamespace as Bag
 
-CODES = ["", "SYNTAX", "NAME_DIFFERS", "DUPLICATE", "MIXED_KIND", "UNKNOWN_TYPE", "WRONG_KIND", "WITH_UNKNOWN",
-         "STATE_UNKNOWN", "EVENT_UNKNOWN", "ALGORITHM_UNKNOWN", "VARIABLE_UNKNOWN", "CLASS", "PORT_UNKNOWN",
-         "PORT_SIDE", "DATA_TYPE", "SECOND_SOURCE", "SECOND_ADAPTER", "PASS_THROUGH", "PARAMETER_UNKNOWN",
-         "LITERAL", "MAPPED_TWICE", "NO_SUCH_RESOURCE", "MEMBER_UNKNOWN", "STRUCT_RECURSIVE"]
-COUNT = Counter()
+CODES = ["", "SYNTAX", "NAME_DIFFERS", "DUPLICATE", "MIXED_KIND", "UNKNOWN_TYPE", "WRONG_KIND", "WITH_UNKNOWN", "STATE_UNKNOWN", "EVENT_UNKNOWN",
+         "ALGORITHM_UNKNOWN", "VARIABLE_UNKNOWN", "CLASS", "PORT_UNKNOWN", "PORT_SIDE", "DATA_TYPE", "SECOND_SOURCE", "SECOND_ADAPTER", "PASS_THROUGH",
+         "PARAMETER_UNKNOWN", "LITERAL", "MAPPED_TWICE", "NO_SUCH_RESOURCE", "MEMBER_UNKNOWN", "STRUCT_RECURSIVE"]
 sys.setrecursionlimit(50_000)
 
 # ---------------------------------------------------------------- tokens
 
-RESERVED = set("""FUNCTION_BLOCK END_FUNCTION_BLOCK ADAPTER END_ADAPTER SUBAPPLICATION END_SUBAPPLICATION SYSTEM
-END_SYSTEM APPLICATION END_APPLICATION DEVICE END_DEVICE RESOURCE END_RESOURCE MAPPINGS END_MAPPINGS EVENT_INPUT
-EVENT_OUTPUT END_EVENT VAR VAR_INPUT VAR_OUTPUT END_VAR PLUGS END_PLUGS SOCKETS END_SOCKETS FBS END_FBS SUBAPPS
-END_SUBAPPS EVENT_CONNECTIONS DATA_CONNECTIONS ADAPTER_CONNECTIONS END_CONNECTIONS EC_STATES END_STATES
-EC_TRANSITIONS END_TRANSITIONS ALGORITHM END_ALGORITHM SERVICE END_SERVICE WITH TO ARRAY OF IF THEN ELSIF ELSE END_IF
-CASE END_CASE FOR BY DO END_FOR WHILE END_WHILE REPEAT UNTIL END_REPEAT EXIT RETURN AND OR XOR NOT MOD TRUE
-FALSE TYPE END_TYPE STRUCT END_STRUCT""".split())
+RESERVED = set("""FUNCTION_BLOCK END_FUNCTION_BLOCK ADAPTER END_ADAPTER SUBAPPLICATION END_SUBAPPLICATION SYSTEM END_SYSTEM APPLICATION
+END_APPLICATION DEVICE END_DEVICE RESOURCE END_RESOURCE MAPPINGS END_MAPPINGS EVENT_INPUT EVENT_OUTPUT END_EVENT VAR VAR_INPUT VAR_OUTPUT END_VAR
+PLUGS END_PLUGS SOCKETS END_SOCKETS FBS END_FBS SUBAPPS END_SUBAPPS EVENT_CONNECTIONS DATA_CONNECTIONS ADAPTER_CONNECTIONS END_CONNECTIONS EC_STATES
+END_STATES EC_TRANSITIONS END_TRANSITIONS ALGORITHM END_ALGORITHM SERVICE END_SERVICE WITH TO ARRAY OF IF THEN ELSIF ELSE END_IF CASE END_CASE FOR BY
+DO END_FOR WHILE END_WHILE REPEAT UNTIL END_REPEAT EXIT RETURN AND OR XOR NOT MOD TRUE FALSE TYPE END_TYPE STRUCT END_STRUCT""".split())
 
 W = r"[A-Za-z_][A-Za-z0-9_]*"
 WORD = re.compile(W)
 NUMBER = re.compile(r"[0-9][0-9_]*(?:#[A-Za-z0-9_]+|\.[0-9]+(?:[Ee][+-]?[0-9]+)?)?")
-PLAIN = r"[A-Za-z0-9_#]|\.(?=[0-9])"
-TYPED = re.compile(r"(" + W + r")#[+-]?(?:" + PLAIN + r")+")
-TYPED_DATE = re.compile(r"(" + W + r")#[+-]?(?:" + PLAIN + r"|[-:](?=[0-9]))+")
-TYPED_REAL = re.compile(r"(" + W + r")#[+-]?(?:" + PLAIN + r"|(?<=[Ee])[+-](?=[0-9]))+")
+IN_LITERAL = r"[A-Za-z0-9_#]|\.(?=[0-9])"
+TYPED = re.compile(r"(" + W + r")#[+-]?(?:" + IN_LITERAL + r")+")
+TYPED_DATE = re.compile(r"(" + W + r")#[+-]?(?:" + IN_LITERAL + r"|[-:](?=[0-9]))+")
+TYPED_REAL = re.compile(r"(" + W + r")#[+-]?(?:" + IN_LITERAL + r"|(?<=[Ee])[+-](?=[0-9]))+")
 STRING = re.compile(r"'(?:[^'$\r\n]|\$[^\r\n])*'|\"(?:[^\"$\r\n]|\$[^\r\n])*\"")
-BLANKS = re.compile(r"[ \t\r\n]+")
+SKIPPED = re.compile(r"(?:[ \t\r\n]+|\(\*.*?\*\)|//[^\n]*)*", re.S)
 SYMBOL = re.compile(r":=|<=|>=|<>|\*\*|->|\.\.|[;:,.()\[\]=<>+\-*/&]")
 DATES = {"D", "DATE", "TOD", "TIME_OF_DAY", "DT", "DATE_AND_TIME"}
 
@@ -44,53 +39,30 @@ class Tok:
     def __init__(self, kind, text, start, end):
         self.kind, self.text, self.start, self.end = kind, text, start, end
         self.up = text.upper() if text.isascii() else text
-        self.reserved = kind == "WORD" and self.up in RESERVED
-        self.name = kind == "WORD" and not self.reserved and len(text) <= 64
+        self.name = kind == "WORD" and self.up not in RESERVED and len(text) <= 64
+
+
+def longest(text, i):
+    """The kind and the end of the longest token at this place; a character with which none begins is one by itself."""
+    found = []
+    if word := WORD.match(text, i):
+        up = word.group().upper()
+        typed = (TYPED_DATE if up in DATES else TYPED_REAL if up in ("REAL", "LREAL") else TYPED).match(text, i)
+        found += [("WORD", word.end())] + ([("TYPED", typed.end())] if typed and typed.group(1) == word.group() else [])
+    found += [(kind, it.end()) for kind, rx in (("NUMBER", NUMBER), ("STRING", STRING), ("SYMBOL", SYMBOL)) if (it := rx.match(text, i))]
+    return max(found, key=lambda it: it[1], default=("OTHER", i + 1))
 
 
 def tokens(text):
-    """The tokens of a text with byte places, or ("bad", start, end)."""
-    size = len(text.encode())
-    if text.isascii():
-        at = list(range(len(text) + 1))
-    else:
-        at = [0]
-        for c in text:
-            at.append(at[-1] + len(c.encode()))
-    out, i, n = [], 0, len(text)
-    while i < n:
-        blanks = BLANKS.match(text, i)
-        if blanks:
-            i = blanks.end()
-            continue
+    """The tokens of a text with byte places, or ("bad", start, end) of a comment without an end."""
+    at = range(len(text) + 1) if text.isascii() else [0, *accumulate(len(c.encode()) for c in text)]
+    out, i = [], SKIPPED.match(text).end()
+    while i < len(text):
         if text.startswith("(*", i):
-            j = text.find("*)", i + 2)
-            if j < 0:
-                return ("bad", at[i], size)
-            i = j + 2
-            continue
-        if text.startswith("//", i):
-            j = text.find("\n", i)
-            i = n if j < 0 else j + 1
-            continue
-        best = ("OTHER", i + 1)
-        tries = []
-        m = WORD.match(text, i)
-        if m:
-            tries.append(("WORD", m.end()))
-            word = m.group().upper()
-            t = (TYPED_DATE if word in DATES else TYPED_REAL if word in ("REAL", "LREAL") else TYPED).match(text, i)
-            if t and t.group(1) == m.group():
-                tries.append(("TYPED", t.end()))
-        for kind, rx in (("NUMBER", NUMBER), ("STRING", STRING), ("SYMBOL", SYMBOL)):
-            m = rx.match(text, i)
-            if m:
-                tries.append((kind, m.end()))
-        if tries:
-            best = max(tries, key=lambda t: t[1])
-        kind, j = best
-        out.append(Tok(kind, text[i:j], at[i], at[j]))
-        i = j
+            return ("bad", at[i], at[-1])
+        kind, end = longest(text, i)
+        out.append(Tok(kind, text[i:end], at[i], at[end]))
+        i = SKIPPED.match(text, end).end()
     return out
 
 
@@ -98,6 +70,14 @@ def tokens(text):
 
 I_TYPES = {"SINT", "INT", "DINT", "LINT", "USINT", "UINT", "UDINT", "ULINT"}
 W_TYPES = {"BYTE", "WORD", "DWORD", "LWORD"}
+ELEMENTARY = {"BOOL", "REAL", "LREAL", "TIME", "DATE", "TOD", "TIME_OF_DAY", "DT", "DATE_AND_TIME", "STRING", "WSTRING"} | I_TYPES | W_TYPES
+# The classes of constants that fit a class of types, and the joins of two classes that differ.
+FITTING = {"B": ("B", "Any"), "I": ("I", "Num", "Any"), "W": ("W", "Num", "Any"), "O": ("O", "I", "Num", "Any")}
+JOINS = {frozenset(("Num", it)): it for it in "IWO"} | {frozenset("IO"): "O"}
+# The classes of what operators take; all but these take numbers that are not of bits.
+LOGICAL, COMPARING, NUMERIC = ("B", "W", "Num", "Any"), ("B", "I", "W", "O", "Num", "Any"), ("I", "O", "Num", "Any")
+TAKEN = {op: LOGICAL for op in ("OR", "XOR", "AND", "&", "NOT")} | {op: COMPARING for op in ("=", "<>", "<", ">", "<=", ">=")}
+TAKEN["MOD"] = ("I", "Num", "Any")
 
 
 def class_of_name(up):
@@ -107,13 +87,7 @@ def class_of_name(up):
         return "I"
     if up in W_TYPES:
         return "W"
-    if up == "ANY" or up.startswith("ANY_"):
-        return "Free"
-    return "O"
-
-
-ELEMENTARY = {"BOOL", "REAL", "LREAL", "TIME", "DATE", "TOD", "TIME_OF_DAY", "DT", "DATE_AND_TIME", "STRING",
-              "WSTRING"} | I_TYPES | W_TYPES
+    return "Free" if up == "ANY" or up.startswith("ANY_") else "O"
 
 
 def is_elementary(up):
@@ -122,88 +96,101 @@ def is_elementary(up):
 
 
 def class_of_number(text):
-    if "." in text:
+    return "O" if "." in text else "Any" if text in ("0", "1") else "Num"
+
+
+def class_of_literal(tok):
+    """The class of a literal; None if the token is no literal."""
+    if tok.kind == "NUMBER":
+        return class_of_number(tok.text)
+    if tok.kind == "TYPED":
+        return class_of_name(tok.up.split("#")[0])
+    if tok.kind == "STRING":
         return "O"
-    return "Any" if text in ("0", "1") else "Num"
+    return "B" if tok.kind == "WORD" and tok.up in ("TRUE", "FALSE") else None
 
 
 def join(a, b):
     """The join of two classes or None."""
     if "Free" in (a, b):
         return "Free"
-    if a == b:
+    if a == b or b == "Any":
         return a
-    if a == "Any":
-        return b
-    if b == "Any":
-        return a
-    pair = {a, b}
-    if "Num" in pair:
-        other = (pair - {"Num"}).pop()
-        return other if other in ("I", "W", "O") else None
-    if pair == {"I", "O"}:
-        return "O"
-    return None
+    return b if a == "Any" else JOINS.get(frozenset((a, b)))
 
 
 def fits_class(type_class, const_class):
-    if "Free" in (type_class, const_class):
-        return True
-    return const_class in {"B": ("B", "Any"), "I": ("I", "Num", "Any"), "W": ("W", "Num", "Any"),
-                           "O": ("O", "I", "Num", "Any")}[type_class]
+    return "Free" in (type_class, const_class) or const_class in FITTING[type_class]
 
 
 # ---------------------------------------------------------------- the parser
+
+KINDS = {"FUNCTION_BLOCK": "block", "ADAPTER": "adapter", "SUBAPPLICATION": "subapp", "SYSTEM": "system", "TYPE": "structure"}
+# Of a section of items its first word, with what reads an item, of what sort these are, and the last word.
+ITEMS = {
+    "EVENT_INPUT": ("event", "in", "END_EVENT"),
+    "EVENT_OUTPUT": ("event", "out", "END_EVENT"),
+    "VAR_INPUT": ("variables", "in", "END_VAR"),
+    "VAR_OUTPUT": ("variables", "out", "END_VAR"),
+    "VAR": ("variables", "var", "END_VAR"),
+    "STRUCT": ("variables", "field", "END_STRUCT"),
+    "PLUGS": ("instance", "plug", "END_PLUGS"),
+    "SOCKETS": ("instance", "socket", "END_SOCKETS"),
+    "FBS": ("instance", "fb", "END_FBS"),
+    "SUBAPPS": ("instance", "sub", "END_SUBAPPS"),
+    "EVENT_CONNECTIONS": ("connection", "event", "END_CONNECTIONS"),
+    "DATA_CONNECTIONS": ("connection", "data", "END_CONNECTIONS"),
+    "ADAPTER_CONNECTIONS": ("connection", "adapter", "END_CONNECTIONS"),
+    "EC_STATES": ("state", "", "END_STATES"),
+    "EC_TRANSITIONS": ("transition", "", "END_TRANSITIONS"),
+    "MAPPINGS": ("mapping", "", "END_MAPPINGS"),
+}
+NETWORK = {"FBS", "EVENT_CONNECTIONS", "DATA_CONNECTIONS", "ADAPTER_CONNECTIONS"}
+PORTS = {"EVENT_INPUT", "EVENT_OUTPUT", "VAR_INPUT", "VAR_OUTPUT", "SERVICE"}
+# The sections that a unit may have by its kind, and an application.
+SECTIONS = {
+    "block": PORTS | NETWORK | {"PLUGS", "SOCKETS", "VAR", "EC_STATES", "EC_TRANSITIONS", "ALGORITHM"},
+    "adapter": PORTS,
+    "subapp": PORTS | NETWORK | {"PLUGS", "SOCKETS", "SUBAPPS"},
+    "system": {"APPLICATION", "DEVICE", "MAPPINGS"},
+    "structure": set(),
+    "application": NETWORK | {"SUBAPPS"},
+}
+DEEPEST = 64
+
 
 class Broken(Exception):
     def __init__(self, start, end):
         self.span = (start, end)
 
 
-class Name:
-    def __init__(self, tok):
-        self.up, self.start, self.end = tok.up, tok.start, tok.end
-
-
-class End:
-    """name ['.' name]"""
-    def __init__(self, names):
-        self.names = tuple(n.up for n in names)
-        self.start, self.end = names[0].start, names[-1].end
-
-
-class Bag:
-    def __init__(self, **k):
-        self.__dict__.update(k)
+def statement(form, expressions=(), bodies=(), **more):
+    return Bag(form=form, es=expressions, bodies=bodies, **more)
 
 
 class Parser:
     def __init__(self, toks, size):
-        self.t, self.i, self.size = toks, 0, size
+        self.t, self.i = [*toks, Tok("END", "", size, size)], 0
 
     # -- small steps
-    def peek(self):
-        return self.t[self.i] if self.i < len(self.t) else None
+    @property
+    def here(self):
+        return self.t[self.i]
 
     def fail(self):
-        p = self.peek()
-        raise Broken(p.start, p.end) if p else Broken(self.size, self.size)
+        raise Broken(self.here.start, self.here.end)
 
     def word(self, *ws):
-        p = self.peek()
-        return p is not None and p.kind == "WORD" and p.up in ws
+        return self.here.kind == "WORD" and self.here.up in ws
 
     def sym(self, *ss):
-        p = self.peek()
-        return p is not None and p.kind == "SYMBOL" and p.text in ss
+        return self.here.kind == "SYMBOL" and self.here.text in ss
 
     def kind(self, *ks):
-        p = self.peek()
-        return p is not None and p.kind in ks
+        return self.here.kind in ks
 
     def is_name(self):
-        p = self.peek()
-        return p is not None and p.name
+        return self.here.name
 
     def take(self):
         self.i += 1
@@ -215,223 +202,157 @@ class Parser:
     def need_sym(self, *ss):
         return self.take() if self.sym(*ss) else self.fail()
 
+    def number(self):
+        return self.take() if self.kind("NUMBER") else self.fail()
+
     def name(self):
-        return Name(self.take()) if self.is_name() else self.fail()
+        return self.take() if self.is_name() else self.fail()
+
+    def try_word(self, *ws):
+        return self.take() if self.word(*ws) else None
 
     def try_sym(self, *ss):
         return self.take() if self.sym(*ss) else None
 
+    def separated(self, one):
+        """One or more of these, with commas between them."""
+        found = [one()]
+        while self.try_sym(","):
+            found.append(one())
+        return found
+
+    def pass_over(self, word):
+        """All up to this word."""
+        while not self.kind("END") and not self.word(word):
+            self.take()
+        self.need_word(word)
+
     # -- units
     def unit(self):
-        kinds = {"FUNCTION_BLOCK": "block", "ADAPTER": "adapter", "SUBAPPLICATION": "subapp", "SYSTEM": "system",
-                 "TYPE": "structure"}
-        kw = self.need_word(*kinds).up
-        u = Bag(kind=kinds[kw], name=self.name(), events=[], vars=[], inits=[], insts=[], conns=[], states=[], trans=[],
-                algs=[], has_states=False, has_net=False, apps=[], devices=[], mappings=[])
-        getattr(self, "in_" + u.kind)(u)
-        self.need_word("END_" + kw)
-        if self.i < len(self.t):
+        word = self.need_word(*KINDS).up
+        u = Bag(kind=KINDS[word], name=self.name(), sections=set(), events=[], vars=[], inits=[], insts=[], conns=[], states=[],
+                trans=[], algs=[], apps=[], devices=[], mappings=[])
+        if u.kind == "structure":
+            self.need_sym(":")
+            self.need_word("STRUCT")
+            self.items(u, *ITEMS["STRUCT"])
+            self.try_sym(";")
+        self.sections(u, u.kind)
+        self.need_word("END_" + word)
+        if not self.kind("END"):
             self.fail()
         return u
 
-    def in_block(self, u):
-        while True:
-            if self.iface(u) or self.fbs(u) or self.conns(u) or self.service():
-                continue
-            if self.word("VAR"):
-                self.take()
-                self.vardecls(u, "var")
-            elif self.word("EC_STATES"):
-                self.states(u)
-            elif self.word("EC_TRANSITIONS"):
-                self.transitions(u)
-            elif self.word("ALGORITHM"):
-                self.algorithm(u)
+    def sections(self, u, kind):
+        while self.word(*SECTIONS[kind]):
+            word = self.take().up
+            u.sections.add(word)
+            if word in ITEMS:
+                self.items(u, *ITEMS[word])
+            elif word == "SERVICE":
+                self.pass_over("END_SERVICE")
             else:
-                return
+                getattr(self, word.lower())(u)
 
-    def in_adapter(self, u):
-        while self.events(u) or self.data(u) or self.service():
-            pass
-
-    def in_subapp(self, u):
-        while self.iface(u) or self.fbs(u) or self.subapps(u) or self.conns(u) or self.service():
-            pass
-
-    def in_structure(self, u):
-        self.need_sym(":")
-        self.need_word("STRUCT")
-        self.vardecls(u, "field", "END_STRUCT")
-        self.try_sym(";")
-
-    def in_system(self, u):
-        while True:
-            if self.word("APPLICATION"):
-                self.take()
-                a = Bag(name=self.name(), insts=[], conns=[], has_net=False)
-                while self.fbs(a) or self.subapps(a) or self.conns(a):
-                    pass
-                self.need_word("END_APPLICATION")
-                u.apps.append(a)
-            elif self.word("DEVICE"):
-                self.take()
-                d = Bag(name=self.name(), resources=[])
-                self.need_sym(":")
-                self.name()
-                self.params()
-                self.try_sym(";")
-                while self.word("RESOURCE"):
-                    self.take()
-                    d.resources.append(self.name())
-                    self.need_sym(":")
-                    self.name()
-                    self.params()
-                    self.try_sym(";")
-                    self.need_word("END_RESOURCE")
-                self.need_word("END_DEVICE")
-                u.devices.append(d)
-            elif self.word("MAPPINGS"):
-                self.take()
-                while self.is_name():
-                    path = [self.name()]
-                    while self.try_sym("."):
-                        path.append(self.name())
-                    if not (self.is_name() and self.word("ON")):
-                        self.fail()
-                    self.take()
-                    dev = self.name()
-                    self.need_sym(".")
-                    res = self.name()
-                    self.need_sym(";")
-                    u.mappings.append((End(path), dev, res))
-                self.need_word("END_MAPPINGS")
-            else:
-                return
-
-    # -- sections
-    def iface(self, u):
-        if self.events(u) or self.data(u):
-            return True
-        for kw, role in (("PLUGS", "plug"), ("SOCKETS", "socket")):
-            if self.word(kw):
-                self.take()
-                while self.is_name():
-                    self.inst(u, role)
-                self.need_word("END_" + kw)
-                return True
-        return False
-
-    def events(self, u):
-        if not self.word("EVENT_INPUT", "EVENT_OUTPUT"):
-            return False
-        side = "in" if self.take().up == "EVENT_INPUT" else "out"
+    def items(self, u, read, sort, closing):
         while self.is_name():
-            e = Bag(name=self.name(), side=side, withs=[])
-            if self.try_sym(":"):
-                self.name()
-            if self.word("WITH"):
-                self.take()
-                e.withs.append(self.name())
-                while self.try_sym(","):
-                    e.withs.append(self.name())
-            self.need_sym(";")
-            u.events.append(e)
-        self.need_word("END_EVENT")
-        return True
-
-    def data(self, u):
-        if not self.word("VAR_INPUT", "VAR_OUTPUT"):
-            return False
-        side = "in" if self.take().up == "VAR_INPUT" else "out"
-        self.vardecls(u, side)
-        return True
-
-    def vardecls(self, u, side, closing="END_VAR"):
-        while self.is_name():
-            names = [self.name()]
-            while self.try_sym(","):
-                names.append(self.name())
-            self.need_sym(":")
-            ty = self.type()
-            if self.try_sym(":="):
-                u.inits.append((ty, self.constant()))
-            self.need_sym(";")
-            for n in names:
-                u.vars.append(Bag(name=n, side=side, type=ty))
+            getattr(self, read)(u, sort)
         self.need_word(closing)
+
+    # -- systems
+    def application(self, u):
+        a = Bag(name=self.name(), sections=set(), insts=[], conns=[])
+        self.sections(a, "application")
+        self.need_word("END_APPLICATION")
+        u.apps.append(a)
+
+    def device(self, u):
+        d = Bag(name=self.typed(), resources=[])
+        while self.try_word("RESOURCE"):
+            d.resources.append(self.typed())
+            self.need_word("END_RESOURCE")
+        self.need_word("END_DEVICE")
+        u.devices.append(d)
+
+    def typed(self):
+        """The name of a device or a resource, with its type and parameters, which no rule is about."""
+        name = self.name()
+        self.need_sym(":")
+        self.name()
+        self.params()
+        self.try_sym(";")
+        return name
+
+    def mapping(self, u, _):
+        path = self.end(math.inf)
+        self.need_word("ON")
+        device = self.name()
+        self.need_sym(".")
+        u.mappings.append((path, device, self.name()))
+        self.need_sym(";")
+
+    # -- ports, values and types
+    def event(self, u, side):
+        e = Bag(name=self.name(), side=side, withs=[])
+        if self.try_sym(":"):
+            self.name()
+        if self.try_word("WITH"):
+            e.withs = self.separated(self.name)
+        self.need_sym(";")
+        u.events.append(e)
+
+    def variables(self, u, side):
+        names = self.separated(self.name)
+        self.need_sym(":")
+        ty = self.type()
+        if self.try_sym(":="):
+            u.inits.append((ty, self.constant()))
+        self.need_sym(";")
+        u.vars += [Bag(name=n, side=side, type=ty) for n in names]
 
     def type(self):
         """A type of a value: its class, that of its elements if it is an array, the name in it, and how it is written."""
-        first, form = self.i, "plain"
-        if self.word("ARRAY"):
-            self.take()
+        first, form, element = self.i, "plain", None
+        if self.try_word("ARRAY"):
             self.need_sym("[")
-            self.range()
-            while self.try_sym(","):
-                self.range()
+            self.separated(lambda: (self.bound(), self.need_sym(".."), self.bound()))
             self.need_sym("]")
             self.need_word("OF")
-            name, form = self.name().up, "array"
-            cls, element = "O", class_of_name(name)
-            COUNT["type array"] += 1
-        else:
-            name = self.name().up
-            cls, element = class_of_name(name), None
-            if self.try_sym("["):
-                self.take() if self.kind("NUMBER") else self.fail()
-                self.need_sym("]")
-                cls, form = "O", "length"
-                COUNT["type with length"] += 1
+            form = "array"
+        name = self.name().up
+        if form == "array":
+            element = class_of_name(name)
+        elif self.try_sym("["):
+            self.number()
+            self.need_sym("]")
+            form = "length"
+        cls = class_of_name(name) if form == "plain" else "O"
         return Bag(cls=cls, element=element, name=name, form=form, spelling=" ".join(t.up for t in self.t[first:self.i]))
-
-    def range(self):
-        self.bound()
-        self.need_sym("..")
-        self.bound()
 
     def bound(self):
         self.try_sym("+", "-")
-        return self.take() if self.kind("NUMBER") else self.fail()
+        return self.number()
 
     def constant(self):
         """A constant, with how it is written without blanks."""
         first = self.i
-        out = self.list() if self.sym("[") else self.simple()
+        if begin := self.try_sym("["):
+            items = self.separated(self.simple)
+            out = Bag(items=items, start=begin.start, end=self.need_sym("]").end)
+        else:
+            out = self.simple()
         out.written = "".join(t.text for t in self.t[first:self.i])
         return out
 
-    def list(self):
-        start = self.take().start
-        items = [self.simple()]
-        while self.try_sym(","):
-            items.append(self.simple())
-        return Bag(items=items, start=start, end=self.need_sym("]").end)
-
     def simple(self):
-        p = self.peek()
-        sign = self.try_sym("+", "-")
-        if self.kind("NUMBER"):
-            t = self.take()
-            cls = class_of_number(t.text)
-            if sign and cls == "Any":
-                cls = "Num"
-            return Bag(items=None, cls=cls, start=p.start, end=t.end)
-        if sign:
+        start, sign = self.here.start, self.try_sym("+", "-")
+        cls = "Free" if self.is_name() else class_of_literal(self.here)
+        if cls is None or sign and not self.kind("NUMBER"):
             self.fail()
-        if self.kind("TYPED"):
-            cls = class_of_name(p.up.split("#")[0])
-        elif self.kind("STRING"):
-            cls = "O"
-        elif self.word("TRUE", "FALSE"):
-            cls = "B"
-        elif self.is_name():
-            cls = "Free"
-        else:
-            self.fail()
-        self.take()
-        return Bag(items=None, cls=cls, start=p.start, end=p.end)
+        return Bag(items=None, cls="Num" if sign and cls == "Any" else cls, start=start, end=self.take().end)
 
-    def inst(self, u, role):
+    # -- networks
+    def instance(self, u, role):
         n = self.name()
         self.need_sym(":")
         ty = self.name()
@@ -440,299 +361,185 @@ class Parser:
         u.insts.append(Bag(name=n, type=ty, role=role, params=params if role == "fb" else []))
 
     def params(self):
-        out = []
-        if self.try_sym("("):
-            while not (self.sym(")") and not out):
-                n = self.name()
-                self.need_sym(":=")
-                out.append((n, self.constant()))
-                if not self.try_sym(","):
-                    break
-            self.need_sym(")")
+        if not self.try_sym("("):
+            return []
+        out = [] if self.sym(")") else self.separated(lambda: (self.name(), self.need_sym(":=") and self.constant()))
+        self.need_sym(")")
         return out
 
-    def fbs(self, u):
-        if not self.word("FBS"):
-            return False
-        self.take()
-        u.has_net = True
-        while self.is_name():
-            self.inst(u, "fb")
-        self.need_word("END_FBS")
-        return True
+    def connection(self, u, sort):
+        a = self.end()
+        self.need_word("TO")
+        u.conns.append((sort, a, self.end()))
+        self.need_sym(";")
 
-    def subapps(self, u):
-        if not self.word("SUBAPPS"):
-            return False
-        self.take()
-        while self.is_name():
-            self.inst(u, "sub")
-        self.need_word("END_SUBAPPS")
-        return True
-
-    def conns(self, u):
-        if not self.word("EVENT_CONNECTIONS", "DATA_CONNECTIONS", "ADAPTER_CONNECTIONS"):
-            return False
-        sort = self.take().up.split("_")[0].lower()
-        u.has_net = True
-        while self.is_name():
-            a = self.end()
-            self.need_word("TO")
-            b = self.end()
-            self.need_sym(";")
-            u.conns.append((sort, a, b))
-        self.need_word("END_CONNECTIONS")
-        return True
-
-    def end(self):
+    def end(self, most=2):
+        """Names with points between them, up to this number."""
         names = [self.name()]
-        if self.try_sym("."):
+        while len(names) < most and self.try_sym("."):
             names.append(self.name())
-        return End(names)
-
-    def service(self):
-        if not self.word("SERVICE"):
-            return False
-        self.take()
-        while self.peek() and not self.word("END_SERVICE"):
-            self.take()
-        self.need_word("END_SERVICE")
-        return True
+        return Bag(names=tuple(n.up for n in names), start=names[0].start, end=names[-1].end)
 
     # -- charts
-    def states(self, u):
-        self.take()
-        u.has_states = True
-        while self.is_name():
-            s = Bag(name=self.name(), actions=[])
-            if self.try_sym(":"):
-                s.actions.append(self.action())
-                while self.try_sym(","):
-                    s.actions.append(self.action())
-            self.need_sym(";")
-            u.states.append(s)
-        self.need_word("END_STATES")
+    def state(self, u, _):
+        u.states.append(Bag(name=self.name(), actions=self.separated(self.action) if self.try_sym(":") else []))
+        self.need_sym(";")
 
     def action(self):
-        if self.try_sym("->"):
-            return (None, self.end())
-        alg = self.name()
-        return (alg, self.end() if self.try_sym("->") else None)
+        alg = None if self.sym("->") else self.name()
+        return alg, self.end() if self.try_sym("->") else None
 
-    def transitions(self, u):
-        self.take()
-        while self.is_name():
-            a = self.name()
-            self.need_word("TO")
-            b = self.name()
-            self.need_sym(":=")
-            event, guard = self.cond()
-            self.need_sym(";")
-            u.trans.append((a, b, event, guard))
-        self.need_word("END_TRANSITIONS")
+    def transition(self, u, _):
+        a = self.name()
+        self.need_word("TO")
+        b = self.name()
+        self.need_sym(":=")
+        u.trans.append((a, b, *self.cond()))
+        self.need_sym(";")
 
     def cond(self):
-        p = self.peek()
-        if p and p.kind == "NUMBER" and p.text == "1":
+        """The event and the guard of a transition, None for each that is not there."""
+        if self.kind("NUMBER") and self.here.text == "1":
             self.take()
-            COUNT["cond 1"] += 1
             return None, None
-        event = None
-        if self.is_name():
-            event = self.end()
-        elif not self.sym("["):
-            self.fail()
+        event = None if self.sym("[") else self.end()
         if self.try_sym("["):
-            g = self.expr(0)
+            guard = self.expr(0)
             self.need_sym("]")
-            COUNT["cond E[g]" if event else "cond [g]"] += 1
-            return event, g
-        if self.sym("&") or self.word("AND"):
-            COUNT["cond E %s g" % self.take().up] += 1
-            return event, self.expr(0)
-        COUNT["cond E"] += 1
-        return event, None
+            return event, guard
+        return event, self.expr(0) if self.try_sym("&") or self.try_word("AND") else None
 
     def algorithm(self, u):
-        self.take()
-        n = self.name()
-        if not (self.is_name() and self.word("IN")):
-            self.fail()
-        self.take()
-        language = self.name().up
-        body = None
-        if language == "ST":
+        a = Bag(name=self.name(), body=[])
+        self.need_word("IN")
+        if self.name().up == "ST":
             self.try_sym(":")
-            body = self.stmts(0)
+            a.body = self.stmts(0)
+            self.need_word("END_ALGORITHM")
         else:
-            while self.peek() and not self.word("END_ALGORITHM"):
-                self.take()
-        self.need_word("END_ALGORITHM")
-        u.algs.append(Bag(name=n, body=body))
+            self.pass_over("END_ALGORITHM")
+        u.algs.append(a)
 
-    # -- statements
+    # -- statements, inside k others, parentheses and subscripts
     def stmts(self, k):
         out = []
-        while True:
-            s = self.stmt(k)
-            if s is None:
-                return out
+        while s := self.stmt(k):
             out.append(s)
+        return out
 
     def stmt(self, k):
         if self.try_sym(";"):
-            return Bag(form="empty")
+            return statement("empty")
         if self.is_name():
             ref = self.ref(k)
             at = self.need_sym(":=")
             e = self.expr(k)
             self.need_sym(";")
-            return Bag(form="assign", ref=ref, at=at, e=e)
-        if self.word("EXIT", "RETURN"):
-            f = self.take().up.lower()
+            return statement("assign", [e], ref=ref, at=at)
+        if self.try_word("EXIT", "RETURN"):
             self.need_sym(";")
-            return Bag(form=f)
-        if k >= 64:
+            return statement("empty")
+        if k == DEEPEST or not self.word("IF", "CASE", "FOR", "WHILE", "REPEAT"):
             return None
-        if self.word("IF"):
-            self.take()
-            conds, bodies = [self.expr(k)], []
-            self.need_word("THEN")
-            bodies.append(self.stmts(k + 1))
-            while self.word("ELSIF"):
-                self.take()
-                conds.append(self.expr(k))
-                self.need_word("THEN")
-                bodies.append(self.stmts(k + 1))
-            has_else = self.otherwise(k, bodies)
-            self.need_word("END_IF")
-            return Bag(form="if", conds=conds, bodies=bodies, has_else=has_else)
-        if self.word("CASE"):
-            self.take()
-            e = self.expr(k)
-            self.need_word("OF")
-            bodies = [self.case(k)]
-            while self.sym("+", "-") or self.kind("NUMBER", "TYPED"):
-                bodies.append(self.case(k))
-            has_else = self.otherwise(k, bodies)
-            self.need_word("END_CASE")
-            return Bag(form="case", e=e, bodies=bodies, has_else=has_else)
-        if self.word("FOR"):
-            self.take()
-            n = self.name()
-            self.need_sym(":=")
-            es = [self.expr(k)]
-            self.need_word("TO")
-            es.append(self.expr(k))
-            if self.word("BY"):
-                self.take()
-                es.append(self.expr(k))
-            self.need_word("DO")
-            body = self.stmts(k + 1)
-            self.need_word("END_FOR")
-            return Bag(form="for", name=n, es=es, body=body)
-        if self.word("WHILE"):
-            self.take()
-            e = self.expr(k)
-            self.need_word("DO")
-            body = self.stmts(k + 1)
-            self.need_word("END_WHILE")
-            return Bag(form="while", e=e, body=body)
-        if self.word("REPEAT"):
-            self.take()
-            body = self.stmts(k + 1)
-            self.need_word("UNTIL")
-            e = self.expr(k)
-            self.need_word("END_REPEAT")
-            return Bag(form="repeat", e=e, body=body)
-        return None
+        word = self.take().up
+        s = getattr(self, word.lower() + "_")(k)
+        self.need_word("END_" + word)
+        return s
 
-    def otherwise(self, k, bodies):
-        """Adds the statements after ELSE; whether there is an ELSE."""
-        if not self.word("ELSE"):
-            return False
-        self.take()
-        bodies.append(self.stmts(k + 1))
-        return True
+    def after(self, word, k):
+        self.need_word(word)
+        return self.stmts(k + 1)
 
-    def case(self, k):
-        self.label()
-        while self.try_sym(","):
-            self.label()
+    def otherwise(self, k):
+        return [self.stmts(k + 1)] if self.try_word("ELSE") else []
+
+    def if_(self, k):
+        conds, bodies = [self.expr(k)], [self.after("THEN", k)]
+        while self.try_word("ELSIF"):
+            conds.append(self.expr(k))
+            bodies.append(self.after("THEN", k))
+        return statement("if", conds, bodies + self.otherwise(k))
+
+    def case_(self, k):
+        e = self.expr(k)
+        self.need_word("OF")
+        bodies = [self.labelled(k)]
+        while self.sym("+", "-") or self.kind("NUMBER", "TYPED"):
+            bodies.append(self.labelled(k))
+        return statement("case", [e], bodies + self.otherwise(k))
+
+    def labelled(self, k):
+        self.separated(self.label)
         self.need_sym(":")
         return self.stmts(k + 1)
 
     def label(self):
-        self.int()
+        self.end_of_label()
         if self.try_sym(".."):
-            self.int()
+            self.end_of_label()
 
-    def int(self):
-        if self.kind("TYPED"):
-            return self.take()
-        return self.bound()
+    def end_of_label(self):
+        return self.take() if self.kind("TYPED") else self.bound()
+
+    def for_(self, k):
+        n = self.name()
+        self.need_sym(":=")
+        es = [self.expr(k)]
+        self.need_word("TO")
+        es.append(self.expr(k))
+        if self.try_word("BY"):
+            es.append(self.expr(k))
+        return statement("for", es, [self.after("DO", k)], name=n)
+
+    def while_(self, k):
+        return statement("while", [self.expr(k)], [self.after("DO", k)])
+
+    def repeat_(self, k):
+        body = self.stmts(k + 1)
+        self.need_word("UNTIL")
+        return statement("repeat", [self.expr(k)], [body])
 
     # -- expressions
     def ref(self, k):
         """Names with subscripts or without."""
         steps = [self.step(k)]
-        while self.sym("."):
-            self.take()
+        while self.try_sym("."):
             steps.append(self.step(k))
         return Bag(form="ref", steps=steps, start=steps[0].name.start, end=steps[-1].end)
 
     def step(self, k):
         """name ['[' expr {',' expr} ']']"""
-        name, subs = self.name(), None
-        end = name.end
-        if k < 64 and self.try_sym("["):
-            subs = [self.expr(k + 1)]
-            while self.try_sym(","):
-                subs.append(self.expr(k + 1))
-            end = self.need_sym("]").end
-        return Bag(name=name, subs=subs, end=end)
+        name = self.name()
+        if k == DEEPEST or not self.try_sym("["):
+            return Bag(name=name, subs=None, end=name.end)
+        subs = self.separated(lambda: self.expr(k + 1))
+        return Bag(name=name, subs=subs, end=self.need_sym("]").end)
 
-    LEVELS = [("OR",), ("XOR",), ("&", "AND"), ("=", "<>"), ("<", ">", "<=", ">="), ("+", "-"), ("*", "/", "MOD"),
-              ("**",)]
+    LEVELS = [("OR",), ("XOR",), ("&", "AND"), ("=", "<>"), ("<", ">", "<=", ">="), ("+", "-"), ("*", "/", "MOD"), ("**",)]
 
     def expr(self, k, level=0):
         if level == len(self.LEVELS):
             return self.unary(k)
         left = self.expr(k, level + 1)
-        while self.sym(*self.LEVELS[level]) or self.word(*self.LEVELS[level]):
-            op = self.take()
+        while op := self.try_sym(*self.LEVELS[level]) or self.try_word(*self.LEVELS[level]):
             right = self.expr(k, level + 1)
-            left = Bag(form="bin", op=op, left=left, right=right, start=left.start, end=right.end)
+            left = Bag(form="operation", op=op, parts=[left, right], start=left.start, end=right.end)
         return left
 
     def unary(self, k):
-        if self.sym("+", "-") or self.word("NOT"):
-            op = self.take()
-            e = self.prim(k)
-            return Bag(form="un", op=op, e=e, start=op.start, end=e.end)
-        return self.prim(k)
+        op = self.try_sym("+", "-") or self.try_word("NOT")
+        e = self.prim(k)
+        return Bag(form="operation", op=op, parts=[e], start=op.start, end=e.end) if op else e
 
     def prim(self, k):
-        p = self.peek()
-        if self.kind("NUMBER"):
-            cls = class_of_number(p.text)
-        elif self.kind("TYPED"):
-            cls = class_of_name(p.up.split("#")[0])
-        elif self.kind("STRING"):
-            cls = "O"
-        elif self.word("TRUE", "FALSE"):
-            cls = "B"
-        elif self.is_name():
+        if self.is_name():
             return self.ref(k)
-        elif k < 64 and self.sym("("):
-            self.take()
+        if k < DEEPEST and (begin := self.try_sym("(")):
             e = self.expr(k + 1)
-            end = self.need_sym(")").end
-            return Bag(form="par", e=e, start=p.start, end=end)
-        else:
-            self.fail()
-        self.take()
-        return Bag(form="lit", kind=p.kind, cls=cls, start=p.start, end=p.end)
+            return Bag(form="parentheses", e=e, start=begin.start, end=self.need_sym(")").end)
+        cls = class_of_literal(self.here)
+        tok = self.take() if cls else self.fail()
+        return Bag(form="literal", cls=cls, start=tok.start, end=tok.end)
 
 
 @lru_cache(maxsize=4096)
@@ -871,6 +678,17 @@ def first(items):
 
 
 WANTED = {"plug": "adapter", "socket": "adapter", "fb": "block", "sub": "subapp"}
+# Whether a port gives what it carries to the outside of its unit; a variable that is no port is not there.
+GIVES = {"in": False, "out": True, "socket": False, "plug": True}
+
+
+def port(sort, unit, name, is_inside):
+    """Of a port of a unit, seen from inside or outside, whether it gives, and its type; 13 if there is none."""
+    it = first({"event": unit.events, "data": unit.vars, "adapter": unit.insts}[sort]).get(name)
+    gives = it and GIVES.get(it.role if sort == "adapter" else it.side)
+    if gives is None:
+        return 13
+    return gives != is_inside, {"event": lambda: None, "data": lambda: it.type, "adapter": lambda: it.type.up}[sort]()
 
 
 class Check:
@@ -885,24 +703,8 @@ class Check:
         if r[0] == "broken":
             return [(1, r[1], r[2])]
         u = self.u = r[1]
-        if u.name.up != self.unit:
-            self.add(2, u.name)
-        if u.kind == "block" and u.has_states and u.has_net:
-            self.add(4, u.name)
-        if u.kind == "structure" and self.unit in self.lib.carries(self.unit):
-            self.add(24, u.name)
-        self.doubled([e.name for e in u.events])
-        self.doubled([v.name for v in u.vars])
-        self.doubled([s.name for s in u.states])
-        self.doubled([a.name for a in u.algs])
-        self.ev, self.va, self.ins = first(u.events), first(u.vars), first(u.insts)
-        for e in u.events:
-            for w in e.withs:
-                v = self.va.get(w.up)
-                if v is None or v.side != e.side:
-                    self.add(7, w)
-        for ty, c in u.inits:
-            self.fit(ty, c, "initial")
+        self.va, self.ins = first(u.vars), first(u.insts)
+        self.declarations()
         if u.kind == "system":
             self.system()
         else:
@@ -910,9 +712,26 @@ class Check:
         if u.kind == "block":
             self.chart()
             for a in u.algs:
-                if a.body is not None:
-                    self.stmts(a.body)
+                self.stmts(a.body)
         return [(c, s, e) for s, e, c in sorted(self.out)]
+
+    def declarations(self):
+        u = self.u
+        if u.name.up != self.unit:
+            self.add(2, u.name)
+        if "EC_STATES" in u.sections and u.sections & NETWORK:
+            self.add(4, u.name)
+        if u.kind == "structure" and self.unit in self.lib.carries(self.unit):
+            self.add(24, u.name)
+        for items in (u.events, u.vars, u.states, u.algs):
+            self.doubled([it.name for it in items])
+        for e in u.events:
+            for w in e.withs:
+                v = self.va.get(w.up)
+                if v is None or v.side != e.side:
+                    self.add(7, w)
+        for ty, c in u.inits:
+            self.fit(ty, c)
 
     def doubled(self, names):
         seen = set()
@@ -926,15 +745,11 @@ class Check:
         t = self.lib.tree(inst.type.up)
         return t if t is not None and t.kind == WANTED[inst.role] else None
 
-    def fit(self, ty, c, where):
+    def fit(self, ty, c):
         if c.items is None:
-            COUNT["%s %s to %s" % (where, c.cls, "array" if ty.element else ty.cls)] += 1
-            ok = c.cls == "Free" if ty.element is not None else fits_class(ty.cls, c.cls)
-            if not ok:
+            if not (c.cls == "Free" if ty.element is not None else fits_class(ty.cls, c.cls)):
                 self.add(20, c)
-            return
-        COUNT["%s list to %s" % (where, "array of " + ty.element if ty.element else ty.cls)] += 1
-        if ty.element is not None:
+        elif ty.element is not None:
             for s in c.items:
                 if not fits_class(ty.element, s.cls):
                     self.add(20, s)
@@ -943,7 +758,6 @@ class Check:
 
     # -- networks
     def network(self, net, kind):
-        ins = first(net.insts)
         self.doubled([i.name for i in net.insts])
         for i in net.insts:
             t = self.lib.tree(i.type.up)
@@ -952,30 +766,10 @@ class Check:
             elif t.kind != WANTED[i.role]:
                 self.add(6, i.type)
             self.doubled([n for n, _ in i.params])
-            t = self.type_of(i)
-            if t is not None:
-                tv = first(t.vars)
-                for n, c in i.params:
-                    v = tv.get(n.up)
-                    if v is None or v.side != "in":
-                        self.add(19, n)
-                    else:
-                        self.fit(v.type, c, "param")
-        dests, used = set(), set()
+            self.params(i)
+        ins, dests, used = first(net.insts), set(), set()
         for sort, a, b in net.conns:
-            ra = self.judge(sort, a, True, kind, ins)
-            rb = self.judge(sort, b, False, kind, ins)
-            for end, r in ((a, ra), (b, rb)):
-                if r[0] in (13, 14):
-                    self.add(r[0], end)
-            if ra[0] == rb[0] == "ok":
-                if sort == "data":
-                    if ra[1].spelling != rb[1].spelling and "Free" not in (ra[1].cls, rb[1].cls):
-                        self.add(15, b)
-                if sort == "adapter" and ra[1] != rb[1]:
-                    self.add(15, b)
-                if kind == "subapp" and len(a.names) == len(b.names) == 1:
-                    self.add(18, a, b)
+            self.connection(sort, a, b, kind, ins)
             if sort == "data":
                 if b.names in dests:
                     self.add(16, b)
@@ -987,56 +781,48 @@ class Check:
                     self.add(17, b)
                 used.update((a.names, b.names))
 
-    def judge(self, sort, end, source, kind, ins):
-        """("ok", type) | (13,) | (14,) | (None,) if the end is not checked"""
-        r, what = self.judge_end(sort, end, source, kind, ins)
-        COUNT["end %s %s %s %s: %s" % (kind, sort, "from" if source else "to", what, r[0])] += 1
-        return r
-
-    def judge_end(self, sort, end, source, kind, ins):
-        name = end.names[0]
-        if len(end.names) == 1:
-            if kind == "app":
-                return (13,), "X"
-            if sort == "adapter":
-                i = ins.get(name)
-                if i is None or i.role not in ("plug", "socket"):
-                    return (13,), "X"
-                right = i.role == ("socket" if source else "plug")
-                return (("ok", i.type.up) if right else (14,)), "own " + i.role
-            p = (self.ev if sort == "event" else self.va).get(name)
-            if p is None or p.side == "var":
-                return (13,), "X"
-            right = p.side == ("in" if source else "out")
-            return (("ok", p.type if sort == "data" else None) if right else (14,)), "own " + p.side
-        i = ins.get(name)
-        if i is None:
-            return (13,), "?.X"
-        if i.role in ("plug", "socket"):
-            if kind != "block" or sort == "adapter":
-                return (13,), i.role + ".X"
-            t = self.type_of(i)
-            if t is None:
-                return (None,), i.role + ".X"
-            p = first(t.events if sort == "event" else t.vars).get(end.names[1])
-            if p is None or p.side == "var":
-                return (13,), i.role + ".X"
-            want = "in" if (i.role == "plug") == source else "out"
-            return (("ok", p.type if sort == "data" else None) if p.side == want else (14,)), i.role + "." + p.side
+    def params(self, i):
         t = self.type_of(i)
-        if t is None:
-            return (None,), i.role + ".X"
-        if sort == "adapter":
-            q = first(t.insts).get(end.names[1])
-            if q is None or q.role not in ("plug", "socket"):
-                return (13,), i.role + ".X"
-            right = q.role == ("plug" if source else "socket")
-            return (("ok", q.type.up) if right else (14,)), i.role + "." + q.role
-        p = first(t.events if sort == "event" else t.vars).get(end.names[1])
-        if p is None or p.side == "var":
-            return (13,), i.role + ".X"
-        right = p.side == ("out" if source else "in")
-        return (("ok", p.type if sort == "data" else None) if right else (14,)), i.role + "." + p.side
+        variables = first(t.vars) if t else {}
+        for n, c in i.params if t else ():
+            v = variables.get(n.up)
+            if v is None or v.side != "in":
+                self.add(19, n)
+            else:
+                self.fit(v.type, c)
+
+    def connection(self, sort, a, b, kind, ins):
+        (fault_a, type_a), (fault_b, type_b) = self.judge(sort, a, True, kind, ins), self.judge(sort, b, False, kind, ins)
+        for end, fault in ((a, fault_a), (b, fault_b)):
+            if fault in (13, 14):
+                self.add(fault, end)
+        if fault_a or fault_b:
+            return
+        if sort == "data" and type_a.spelling != type_b.spelling and "Free" not in (type_a.cls, type_b.cls):
+            self.add(15, b)
+        if sort == "adapter" and type_a != type_b:
+            self.add(15, b)
+        if kind == "subapp" and len(a.names) == len(b.names) == 1:
+            self.add(18, a, b)
+
+    def judge(self, sort, end, is_source, kind, ins):
+        """The code of an end's fault and None, or nothing and its type; True if the end is not checked."""
+        found = self.place(sort, end, kind, ins)
+        if not isinstance(found, tuple):
+            return found or True, None
+        gives, ty = found
+        return (None, ty) if gives == is_source else (14, None)
+
+    def place(self, sort, end, kind, ins):
+        """What port() has of an end; None if the type of its instance can't be used."""
+        name, *inner = end.names
+        if not inner:
+            return 13 if kind == "app" else port(sort, self.u, name, True)
+        i = ins.get(name)
+        if i is None or i.role in ("plug", "socket") and (kind != "block" or sort == "adapter"):
+            return 13
+        t = self.type_of(i)
+        return t and port(sort, t, inner[0], i.role == "plug")
 
     # -- systems
     def system(self):
@@ -1055,48 +841,31 @@ class Check:
             d = devices.get(dev.up)
             if d is None or res.up not in [r.up for r in d.resources]:
                 self.add(22, dev, res)
-            COUNT["mapping of %d names" % len(path.names)] += 1
 
     # -- charts
     def chart(self):
         u = self.u
         states, algs = first(u.states), first(u.algs)
-        for s in u.states:
-            for alg, event in s.actions:
-                COUNT["action %s%s" % ("alg" if alg else "", "->" if event else "")] += 1
-                if alg is not None and alg.up not in algs:
-                    self.add(10, alg)
-                if event is not None:
-                    self.event(event, "out", "action")
+        for alg, event in (action for s in u.states for action in s.actions):
+            if alg is not None and alg.up not in algs:
+                self.add(10, alg)
+            if event is not None:
+                self.event(event, False)
         for a, b, event, guard in u.trans:
             for s in (a, b):
                 if s.up not in states:
                     self.add(8, s)
             if event is not None:
-                self.event(event, "in", "transition")
+                self.event(event, True)
             if guard is not None:
-                self.want(guard, ("B", "Any"), "guard")
+                self.want(guard, "B")
 
-    def event(self, end, side, where):
-        """side: "in" for a transition, "out" for an action."""
-        r, what = self.judge_event(end, side)
-        COUNT["event of %s %s: %s" % (where, what, "not judged" if r is None else "ok" if r else "unknown")] += 1
-        if r is False:
-            self.add(9, end)
-
-    def judge_event(self, end, side):
-        if len(end.names) == 1:
-            e = self.ev.get(end.names[0])
-            return e is not None and e.side == side, "X"
+    def event(self, end, is_input):
+        """An event of a transition comes in, one of an action goes out: by a port of the unit, or of the type of a plug or socket."""
         i = self.ins.get(end.names[0])
-        if i is None or i.role not in ("plug", "socket"):
-            return False, "?.X" if i is None else "instance.X"
-        t = self.type_of(i)
-        if t is None:
-            return None, i.role + ".X"
-        e = first(t.events).get(end.names[1])
-        wanted = side if i.role == "plug" else {"in": "out", "out": "in"}[side]
-        return e is not None and e.side == wanted, i.role + ".X"
+        is_of_part = len(end.names) == 2 and (i is None or i.role not in ("plug", "socket"))
+        if is_of_part or self.judge("event", end, is_input, "block", self.ins)[0] in (13, 14):
+            self.add(9, end)
 
     # -- statements and expressions
     def stmts(self, body):
@@ -1104,51 +873,35 @@ class Check:
             self.stmt(s)
 
     def stmt(self, s):
-        f = s.form
-        COUNT["stmt " + f + (" else" if f in ("if", "case") and s.has_else else "")
-              + (" elsif" if f == "if" and len(s.conds) > 1 else "") + (" by" if f == "for" and len(s.es) == 3 else "")] += 1
-        if f == "assign":
-            a, b = self.ref(s.ref), self.cls(s.e)
-            COUNT["assign %s := %s" % (a, b)] += 1
-            if join(a, b) is None:
+        if s.form == "assign":
+            if join(self.ref(s.ref), self.cls(s.es[0])) is None:
                 self.add(12, s.at)
-        elif f == "if":
-            for c in s.conds:
-                self.want(c, ("B", "Any"), "if")
-            for b in s.bodies:
-                self.stmts(b)
-        elif f == "case":
-            c = self.cls(s.e)
-            COUNT["case %s" % c] += 1
-            if c == "B":
-                self.add(12, s.e)
-            for b in s.bodies:
-                self.stmts(b)
-        elif f == "for":
-            v = self.va.get(s.name.up)
-            if v is None:
-                self.add(11, s.name)
-            elif v.type.cls not in ("I", "Free"):
-                self.add(12, s.name)
-            COUNT["for name %s" % (v.type.cls if v else "unknown")] += 1
+        elif s.form == "case":
+            if self.cls(s.es[0]) == "B":
+                self.add(12, s.es[0])
+        else:
             for e in s.es:
-                self.want(e, ("I", "Num", "Any"), "for")
-            self.stmts(s.body)
-        elif f in ("while", "repeat"):
-            self.want(s.e, ("B", "Any"), f)
-            self.stmts(s.body)
+                self.want(e, "I" if s.form == "for" else "B")
+        if s.form == "for":
+            self.counter(s.name)
+        for b in s.bodies:
+            self.stmts(b)
 
-    def want(self, e, classes, where):
-        c = self.cls(e)
-        COUNT["want %s %s" % (where, c)] += 1
-        if c != "Free" and c not in classes:
+    def counter(self, name):
+        v = self.va.get(name.up)
+        if v is None:
+            self.add(11, name)
+        elif v.type.cls not in ("I", "Free"):
+            self.add(12, name)
+
+    def want(self, e, cls):
+        if not fits_class(cls, self.cls(e)):
             self.add(12, e)
 
     def ref(self, r):
         """The class of a reference, and the faults of it."""
-        for step in r.steps:
-            for e in step.subs or []:
-                self.want(e, ("I", "Num", "Any"), "subscript")
+        for e in (e for step in r.steps for e in step.subs or []):
+            self.want(e, "I")
         base = self.base(r)
         if base is None:
             return "Free"
@@ -1161,7 +914,6 @@ class Check:
                 self.add(23, step.name)
                 return "Free"
             ty, subs = fields[step.name.up].type, step.subs
-        COUNT["ref ends %s%s after %d fields" % (ty.form, "[]" if subs else "", len(rest))] += 1
         if subs is None:
             return ty.cls
         return ty.element if ty.form == "array" else "O"
@@ -1170,85 +922,44 @@ class Check:
         """What a reference begins with: its type, the subscripts after it and the steps that follow. None with a fault, and
         where it is not judged."""
         one, two = r.steps[0], r.steps[1] if len(r.steps) > 1 and r.steps[0].subs is None else None
-        i = self.ins.get(one.name.up)
-        what, var, used = "X", self.va.get(one.name.up), 1
+        i, var, used = self.ins.get(one.name.up), self.va.get(one.name.up), 1
         if two is not None and i is not None and i.role in ("plug", "socket"):
-            what, used = i.role + ".X", 2
             t = self.type_of(i)
             if t is None:
-                COUNT["ref %s not judged" % what] += 1
                 return None
-            var = first(t.vars).get(two.name.up)
-        elif two is not None:
-            what = "X.F" if i is None else "X.F beside " + i.role
-        subs = r.steps[used - 1].subs
-        COUNT["ref %s%s %s" % (what, "[]" if subs else "", "unknown" if var is None else
-                               ("array" if var.type.element else var.type.cls))] += 1
+            var, used = first(t.vars).get(two.name.up), 2
         if var is None:
             self.add(11, one.name, two and two.name)
             return None
-        return var.type, subs, r.steps[used:]
+        return var.type, r.steps[used - 1].subs, r.steps[used:]
 
     def fields(self, ty, subscripted):
         """The fields after a type, with subscripts or without: {} if there are no fields, None if it is not checked."""
-        form = ty.form
-        if form == "array" and subscripted:
-            form, subscripted = "plain", False
-        what = "elementary"
-        out = {}
-        if form != "plain":
-            what = form
-        elif class_of_name(ty.name) == "Free":
-            what, out = "generic", None
-        elif not is_elementary(ty.name):
-            t = self.lib.tree(ty.name)
-            what = "absent" if ty.name not in self.lib.texts else "broken" if t is None else t.kind
-            if t is None:
-                out = None
-            elif t.kind == "structure" and not subscripted:
-                out = first(t.vars)
-        COUNT["fields of %s%s%s" % (ty.form + " of " if form != ty.form else "", what, "[]" if subscripted else "")] += 1
-        return out
+        if ty.form == "length" or ty.form == "array" and not subscripted:
+            return {}
+        if class_of_name(ty.name) == "Free":
+            return None
+        if is_elementary(ty.name):
+            return {}
+        t = self.lib.tree(ty.name)
+        if t is None:
+            return None
+        return first(t.vars) if t.kind == "structure" and subscripted == (ty.form == "array") else {}
 
     def cls(self, e):
-        f = e.form
-        if f == "lit":
-            COUNT["lit %s %s" % (e.kind, e.cls)] += 1
+        if e.form == "literal":
             return e.cls
-        if f == "ref":
+        if e.form == "ref":
             return self.ref(e)
-        if f == "par":
-            COUNT["parentheses"] += 1
+        if e.form == "parentheses":
             return self.cls(e.e)
-        if f == "un":
-            a = self.cls(e.e)
-            ok = a == "Free" or a in (("B", "W", "Num", "Any") if e.op.up == "NOT" else ("I", "O", "Num", "Any"))
-            COUNT["op unary %s %s %s" % (e.op.up, a, "ok" if ok else "CLASS")] += 1
-            if not ok:
-                self.add(12, e.op)
-                return "Free"
-            return "Num" if a == "Any" and e.op.up != "NOT" else a
-        a, b = self.cls(e.left), self.cls(e.right)
-        j, op = join(a, b), e.op.up
-        if op in ("OR", "XOR", "AND", "&"):
-            wanted = ("B", "W", "Num", "Any")
-        elif op in ("=", "<>", "<", ">", "<=", ">="):
-            wanted = ("B", "I", "W", "O", "Num", "Any")
-        elif op == "MOD":
-            wanted = ("I", "Num", "Any")
-        else:
-            wanted = ("I", "O", "Num", "Any")
-        ok = j is not None and (j == "Free" or j in wanted)
-        COUNT["op %s %s" % (op, "ok" if ok else "CLASS")] += 1
-        COUNT["pair %s %s" % tuple(sorted((a, b)))] += 1
-        if not ok:
+        op, found = e.op.up, reduce(join, map(self.cls, e.parts))
+        taken = TAKEN.get(op, NUMERIC)
+        is_right = found == "Free" or found in taken
+        if not is_right:
             self.add(12, e.op)
-        if op in ("=", "<>", "<", ">", "<=", ">="):
+        if taken is COMPARING:
             return "B"
-        if not ok:
+        if not is_right:
             return "Free"
-        return "Num" if j == "Any" and op not in ("OR", "XOR", "AND", "&") else j
-
-
-def faults(library, unit):
-    return Library(library).faults(unit)
+        return "Num" if found == "Any" and taken is not LOGICAL else found

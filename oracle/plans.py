@@ -18,8 +18,7 @@ class Plan:
         faulty = self.unmapped() + self.without_block()
         if faulty:
             return {"faulty": faulty}
-        return {"cuts": [it for it in self.net["links"] if self.is_cut(it)],
-                "resources": [[name, self.commands(name)] for name in self.resources()]}
+        return {"cuts": [it for it in self.net["links"] if self.is_cut(it)], "resources": [[name, self.commands(name)] for name in self.resources()]}
 
     def home(self, path):
         """The resource of the mapping with the longest path that is this one or a prefix of it by whole names; None without one."""
@@ -47,13 +46,10 @@ class Plan:
     def commands(self, resource):
         blocks = sorted(it for it in self.net["blocks"] if self.home(it[0]) == resource)
         links = [it for it in self.net["links"] if not self.is_cut(it) and self.home_of_end(it[1]) == resource]
-        return (["CREATE FB %s %s" % (path, kind) for path, kind in blocks]
-                + ["WRITE %s %s" % it for it in self.writes({path for path, _ in blocks})]
-                + ["CREATE CONNECTION %s %s" % (start, end) for _, start, end in links]
-                + ["START " + resource])
+        return (["CREATE FB %s %s" % (path, kind) for path, kind in blocks] + ["WRITE %s %s" % it for it in self.writes({path for path, _ in blocks})]
+                + ["CREATE CONNECTION %s %s" % (start, end) for _, start, end in links] + ["START " + resource])
 
     def writes(self, paths):
         """The parameters of these blocks: places and constants, by the bytes of the places."""
-        return sorted(("%s.%s" % (path, name.up), constant.written)
-                      for path, instance in self.lib.instances(self.unit) if path in paths
+        return sorted(("%s.%s" % (path, name.up), constant.written) for path, instance in self.lib.instances(self.unit) if path in paths
                       for name, constant in instance.params)

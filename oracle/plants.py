@@ -14,7 +14,7 @@ NOISE = [0.0, 0.0, 0.0, 0.02, 0.1]
 
 class Plant(Gen):
     def __init__(self, rng):
-        super().__init__(rng, "structures")
+        super().__init__(rng)
         self.noise, self.odd = rng.choice(NOISE), None
         self.types = rng.sample(TYPES, 3)
         self.gone = {}
@@ -34,7 +34,7 @@ class Plant(Gen):
     def declare(self, name, kind):
         self.plan.pop(name, None)
         made = self.interface(kind, name)
-        self.instances(name, made)
+        self.instances(made)
         self.plan[name] = made
 
     def changed(self, texts):
@@ -63,11 +63,8 @@ class Plant(Gen):
         self.gone.pop(name, None)
         same = name in self.plan and self.chance(0.8)
         self.declare(name, self.plan[name]["kind"] if same else self.pick(KINDS))
-        holders = [n for n, p in self.plan.items() for i in self.all_instances(p) if i[2] == name]
+        holders = [n for n, p in self.plan.items() for i in p["insts"] + [i for _, insts in p["apps"] for i in insts] if i[2] == name]
         return {n: self.text(n) for n in [name] + holders if n == name or self.chance(0.8)}
-
-    def all_instances(self, p):
-        return p["insts"] + [i for _, insts in p["apps"] for i in insts]
 
     # -- what a unit declares
     def type_of_value(self, name):
@@ -82,10 +79,6 @@ class Plant(Gen):
             if self.of_role(role) or self.bad(0.1):
                 out.append((name, role, self.of_kind(role)))
         return out
-
-    def of_role(self, role):
-        kinds = {"plug": ["adapter"], "socket": ["adapter"], "fb": ["basic", "composite"], "sub": ["subapp"]}[role]
-        return [n for n, p in self.plan.items() if p["kind"] in kinds]
 
     # -- texts
     def params(self, ty):
@@ -126,14 +119,12 @@ class Plant(Gen):
         return items
 
     def system(self, p):
-        parts = [["APPLICATION", a, *sum(self.inst_sections(insts) + self.connections(None, insts, "app"), []), "END_APPLICATION"]
-                 for a, insts in p["apps"]]
+        parts = [["APPLICATION", a, *sum(self.inst_sections(insts) + self.connections(None, insts, "app"), []), "END_APPLICATION"] for a, insts in p["apps"]]
         resources = []
         for device in self.distinct(["D1", "D2", "X"], 1, 2):
             names = self.distinct(["R1", "R2", "X"], 0 if resources else 1, 3)
             resources += [[device, ".", name] for name in names]
-            parts.append(["DEVICE", device, ":", "DT", *sum((["RESOURCE", n, ":", "RT", "END_RESOURCE"] for n in names), []),
-                          "END_DEVICE"])
+            parts.append(["DEVICE", device, ":", "DT", *sum((["RESOURCE", n, ":", "RT", "END_RESOURCE"] for n in names), []), "END_DEVICE"])
         parts += self.split("MAPPINGS", self.mappings(p, resources), "END_MAPPINGS")
         self.r.shuffle(parts)
         return sum(parts, [])
@@ -146,7 +137,7 @@ class Plant(Gen):
         paths += [path for path in inner[:40] if self.chance(often)]
         paths += [self.pick(inner or [["Z"]]) + ["NONE"]] if self.chance(0.06) else []
         self.r.shuffle(paths)
-        return [self.dotted(path) + ["ON", *self.pick(resources), ";"] for path in paths]
+        return [[*" . ".join(path).split(), "ON", *self.pick(resources), ";"] for path in paths]
 
     def paths(self, path, insts, depth):
         out = []
@@ -155,9 +146,6 @@ class Plant(Gen):
             if role == "sub" and depth and kind in self.plan:
                 out += self.paths(path + [name], self.plan[kind]["insts"], depth - 1)
         return [it for it in out if len(it) > 1]
-
-    def dotted(self, path):
-        return sum(([".", name] for name in path), [])[1:]
 
 
 def large(rng):

@@ -1,5 +1,6 @@
 """What conversations reach: things(line, reply) gives names of what a reply shows; NAMED are those that the documents name."""
 import json
+from contextlib import suppress
 
 import lines
 import oracle
@@ -43,11 +44,10 @@ def things(line, reply):
 
 
 def op_of(line):
-    try:
+    with suppress(Refused):
         op = lines.read(line).get("op")
-    except Refused:
-        return "line"
-    return op if isinstance(op, str) and op in REFUSALS else "line"
+        return op if isinstance(op, str) and op in REFUSALS else "line"
+    return "line"
 
 
 def of_call(found):
@@ -64,8 +64,7 @@ def of_net(net):
         return {net}
     if "blocks" not in net:
         return set(net)
-    return ({"flat"} | {"block" for _ in net["blocks"]} | {"link " + it[0] for it in net["links"]}
-            | {"border " + it[0] for it in net["borders"]})
+    return ({"flat"} | {"block" for _ in net["blocks"]} | {"link " + it[0] for it in net["links"]} | {"border " + it[0] for it in net["borders"]})
 
 
 def of_plan(plan):

@@ -5,12 +5,11 @@ import glob
 import os
 import re
 import runpy
-import subprocess
 import sys
 import textwrap
 
+import client_pages
 import code_parts
-import editor_features
 import gate_seconds
 import headline
 import promises
@@ -22,14 +21,23 @@ def tools():
     """Of each command of tools/ the sentence at its head, and why it is here."""
     rows = []
     for path in sorted(it for it in glob.glob(f"{code_parts.TOP}/tools/*") if os.access(it, os.X_OK) and os.path.isfile(it)):
-        with open(path, encoding="utf-8") as file:
-            text = file.read()
+        text = code_parts.text_of(os.path.relpath(path, code_parts.TOP))
         head = re.match(r'#![^\n]*\n(?:"""|# )(.*?)(?:\n\n|\n(?=# |set -)|""")', text, re.S)
         why = re.search(r"^(?:# )?Why it is here: ([^\n]*?)\.(?:\"\"\")?$", text, re.M)
         if not why:
             sys.exit(f"{path} has no line `Why it is here: ..`")
-        rows.append(f"| `{os.path.basename(path)}` | {' '.join(head[1].split())} | {why[1]} |")
-    return "\n".join(["| Tool | What it does | Why it is here |", "|---|---|---|", *rows, ""])
+        rows.append([f"`{os.path.basename(path)}`", " ".join(head[1].split()), why[1]])
+    return code_parts.table(["Tool", "What it does", "Why it is here"], rows, "---")
+
+
+def editors():
+    """What editors get of the language server: a feature whose capability the server has not says `lack`."""
+    sys.path.append(f"{code_parts.TOP}/clients/python")
+    from bench61499.lsp.answers import CAPABILITIES
+
+    rows = [line.split(" | ") for line in code_parts.text_of("tools/editor_features.rows").splitlines() if line[0] != "#"]
+    cells = [[name, other, here if capability == "-" or CAPABILITIES.get(capability) else "lack"] for name, other, capability, here in rows]
+    return code_parts.table(["Feature", "rust-analyzer", "Here"], cells, "---")
 
 
 def neovim():
@@ -38,21 +46,13 @@ def neovim():
     return f"\n    $ clients/tests/editor\n{textwrap.indent(printed, '    ')}\n"
 
 
-@functools.cache
-def help_of(client):
-    """What a client prints of itself, in lines of any length."""
-    command, *words = client.split()
-    surroundings = {**os.environ, "COLUMNS": "10000", "PYTHONDONTWRITEBYTECODE": "1"}
-    return subprocess.run([sys.executable, f"{code_parts.TOP}/clients/{command}", *words, "--help"], capture_output=True, text=True, check=True, env=surroundings).stdout
-
-
 def options(client, shared=False):
     """The options of a client, by its own help, and what its status means; or those that all clients share."""
-    listed, end = re.search(r"\noptions:\n(.*?)(?:\n\n(.*))?\Z", help_of(client), re.S).groups()
-    rows = [it for it in re.findall(r"^  (-\S.*?)(?:  +|\n +)(\S.*)$", listed, re.M) if not it[0].startswith(("-h,", "--version"))]
-    cells = [f"| `{name}` | {sentence} |".replace("FOLDER|FILE", r"FOLDER\|FILE") for name, sentence in rows if name.startswith(SHARED) is shared]
-    status = ["", end.strip()] if not shared and end and end.startswith("The status") else []
-    return "\n".join(["| Option | Effect |", "|---|---|", *cells, *status, ""])
+    its = client_pages.command(*client.split())
+    some = [it for it in its.options if it.name not in ("--help", "--version") and it.words.startswith(SHARED) is shared]
+    rows = [[f"`{it.words}`".replace("FOLDER|FILE", r"FOLDER\|FILE"), it.sentence] for it in some]
+    status = f"\n{its.end}\n" if not shared and its.end.startswith("The status") else ""
+    return code_parts.table(["Option", "Effect"], rows, "---") + status
 
 
 SHARED = ("--program ", "--connect ", "--secret ")
@@ -63,7 +63,7 @@ TABLES = {
     **{f"options of {it}": functools.partial(options, it) for it in CLIENTS},
     "tools": tools,
     "what Neovim shows": neovim,
-    "what editors get": editor_features.table,
+    "what editors get": editors,
     "how much to read": headline.how_much,
     "promises": promises.all_promises,
     "crates": promises.all_crates,

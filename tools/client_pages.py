@@ -14,11 +14,12 @@ WORK = re.compile(r"^    (\w+) +(.*)$", re.M)
 
 
 class Option(NamedTuple):
-    """An option by its long name, what it takes ("" if nothing), and its sentence."""
+    """An option by its long name, what it takes ("" if nothing), its sentence, and all that it is spelled like."""
 
     name: str
     takes: str
     sentence: str
+    words: str
 
     @property
     def choices(self):
@@ -53,7 +54,7 @@ def command(*words):
 
 def option_of(names, sentence):
     long, _, takes = names.rpartition("--")[2].partition(" ")
-    return Option(f"--{long}", takes, sentence)
+    return Option(f"--{long}", takes, sentence, names)
 
 
 def commands(client):

@@ -60,6 +60,12 @@ def text_of(path):
         return lines.read()
 
 
+def table(heads, rows, rule=" --- "):
+    """A table of a page."""
+    line = lambda cells: f"| {' | '.join(cells)} |\n"
+    return "".join([line(heads), f"|{f'{rule}|' * len(heads)}\n", *map(line, rows)])
+
+
 def files(pattern):
     return sorted(os.path.relpath(it, TOP) for it in glob.glob(f"{TOP}/{pattern}", recursive=True))
 
@@ -131,11 +137,6 @@ def imports_in(line):
     return list(listed(use[1], use[2])) if use else []
 
 
-def imported(line, into):
-    for module, name in imports_in(line):
-        into[name] = module
-
-
 def function_at(lines, at, place):
     """The function whose head is at a line, and the line after it. A place is its crate, file, owner, trait, imports and block."""
     head = HEAD.match(lines[at])
@@ -157,7 +158,7 @@ def functions_in(crate, file):
             uses, block = dict(outer), "\n".join(lines[at : end_of_body(lines, at, "")])
         elif line == "}":
             owner, trait, uses, block = "", "", {}, ""
-        imported(line, uses if owner else outer)
+        (uses if owner else outer).update({name: module for module, name in imports_in(line)})
         if HEAD.match(line):
             found, at = function_at(lines, at, (crate, file, owner, trait, uses if owner else outer, block))
             yield found
@@ -175,19 +176,11 @@ def function(crate, full_name):
     return next((it for it in functions(crate) if it.full_name == full_name), None)
 
 
-def is_law(it):
-    return not it.owner and it.is_public and it.body.strip() == "{}" and "ensures" in it.contract
-
-
 @functools.cache
 def laws():
-    """Which crate has each law."""
-    return {it.name: crate for crate in crates() for it in functions(crate) if is_law(it)}
-
-
-def trait_function(it):
-    """The function of the trait that this one meets, or None if no crate has it."""
-    return all_functions().get(f"{it.trait}::{it.name}")
+    """Which crate has each law: a public function without a body that ensures something."""
+    some = [it for crate in crates() for it in functions(crate) if not it.owner and it.is_public]
+    return {it.name: it.crate for it in some if it.body.strip() == "{}" and "ensures" in it.contract}
 
 
 @functools.cache
@@ -268,9 +261,7 @@ def models():
     for crate in crates():
         for file in files(f"crates/{crate}/src/**/*.rt"):
             for name, block in re.findall(r"^impl(?:<[^>]*>)? Model for (\w+)[^\n]*\{\n(.*?)^\}", text_of(file), re.M | re.S):
-                uses = {}
-                for line in block.split("\n"):
-                    imported(line, uses)
+                uses = {name: module for line in block.split("\n") for module, name in imports_in(line)}
                 found[name] = [named(uses, re.findall(rf"ghost {word} = \{{(.*?)\}};", block, re.S)) for word in ("Value", "invariant")]
     return found
 
@@ -283,7 +274,7 @@ def named(uses, texts):
 
 def promised(it):
     """The function with the contract of a call: itself, or that of the trait that it meets without one of its own."""
-    return trait_function(it) if it.trait and not it.contract else it
+    return all_functions().get(f"{it.trait}::{it.name}") if it.trait and not it.contract else it
 
 
 def cited(it):
@@ -329,20 +320,28 @@ def calls_in(cell):
     return found + ([f"{owner}::{name}" for owner in owners for name in inner] or inner)
 
 
+def readme_of(crate):
+    """The page of the edits of a crate."""
+    return f"crates/{crate}/must-fail/README.md"
+
+
+def rows_of_edits(crate):
+    """Of each line on an edit its folder, its name, what it changes and the promise; none if the crate has no such page."""
+    folder = FOLDERS[0]
+    for line in text_of(readme_of(crate)).split("\n") if os.path.isfile(f"{TOP}/{readme_of(crate)}") else ():
+        folder = FOLDERS[1] if "`../more-edits`" in line else folder
+        if row := re.match(r"\| `([\w.-]+)` \| (.+) \| (.+) \|$", line):
+            yield folder, *row.groups()
+
+
 @functools.cache
 def edits():
     found = []
     for crate in crates():
-        folder, readme = FOLDERS[0], f"crates/{crate}/must-fail/README.md"
-        if not os.path.isfile(f"{TOP}/{readme}"):
-            continue
-        for line in text_of(readme).split("\n"):
-            folder = FOLDERS[1] if "`../more-edits`" in line else folder
-            row = re.match(r"\| `([\w.-]+)` \| (.+) \| (.+) \|$", line)
-            if row:
-                path = f"crates/{crate}/{folder}/{row[1]}.edit"
-                text = text_of(path) if os.path.isfile(f"{TOP}/{path}") else ""
-                found.append(Edit(crate, folder, row[1], row[2], calls_in(row[2]), text, row[3]))
+        for folder, name, cell, promise in rows_of_edits(crate):
+            path = f"crates/{crate}/{folder}/{name}.edit"
+            text = text_of(path) if os.path.isfile(f"{TOP}/{path}") else ""
+            found.append(Edit(crate, folder, name, cell, calls_in(cell), text, promise))
     return found
 
 

@@ -4,8 +4,8 @@ import os
 import re
 
 import crate_graph
+from code_parts import TOP, table
 
-TOP = os.path.dirname(os.path.dirname(os.path.abspath(__file__)))
 WITHOUT = "(without an edit)"
 HEAD = re.compile(r"# rt ci on ([\d-]+), (rattle-kit-\w+), (.*): (\d+) crates, (\d+) edits, ([\d.]+) minutes, ([\d.]+) of a core")
 PARTS = {"proof": "proofs", "tests": "tests", "edit": "edits"}
@@ -32,10 +32,6 @@ def last_run():
 def seconds_of_proofs():
     """The seconds of a core of each crate's proof."""
     return {it["crate"]: float(it["core"]) for it in last_run() if it["part"] == "proof"}
-
-
-def table(names, rows):
-    return "\n".join(f"| {' | '.join(it)} |" for it in [names, ["---"] * len(names), *rows]) + "\n"
 
 
 def run():

@@ -43,37 +43,19 @@ class Page(NamedTuple):
     name: str
     title: str
     sentence: str
-    calls: tuple
+    calls: list
 
 
-PAGES = (
-    Page("machine", "The machine", "After any list of calls every entry that is shown is the one from scratch.", (
-        ("fb_history", "entries_follow_the_texts"), ("fb_bench", "Bench::perform"), ("fb_bench", "Bench::start"), ("fb_bench", "Bench::len"), ("fb_bench", "Bench::peek"), ("fb_jobs", "locality"),
-    )),
-    Page("reading", "Reading", "A text has one list of tokens, and spells one tree or is broken at a place.", (("fb_text", "tokens"), ("fb_parse", "Source::read"), ("fb_parse", "one_body"))),
-    Page("faults", "Faults", "The faults of a unit, in order, each at its place.", (("fb_faults", "faults"),)),
-    Page("networks", "Networks and plans", "The flat network of a unit, and the placement and the plan of a system.", (("fb_flatten", "net"), ("fb_mapping", "place"), ("fb_deploy", "plan"))),
-    Page("keys", "Keys", "Which keys texts have, what a key needs, and its value from scratch: what the machine leaves open.", (("fb_jobs", "locality"),)),
-    Page("lines", "The lines", "What a conversation writes is what its lines ask and the answers give.", (("fb_wire", "run_lines"), ("fb_wire", "run_script"))),
-    Page("lock", "The lock", "Calls with seats, workers, and the close.", (
-        ("fb_locked", "Locked::perform_into"), ("fb_shared", "Shared::ask"), ("fb_shared", "Shared::close"), ("fb_shared", "Shared::resume"), ("fb_shared", "work_on"),
-    )),
-    Page("reads", "Reads", "What a host shows without a record.", (
-        ("fb_bench", "Bench::snapshot"), ("fb_bench", "Snapshot::showing"), ("fb_locked", "Locked::read"), ("fb_shared", "Shared::read"), ("fb_shared", "Shared::watch"), ("fb_host", "reads_go_on"),
-    )),
-)
+def rows(kind):
+    """The rows of this kind of tools/headline.rows, each a list of its parts."""
+    return [line.removeprefix(f"{kind} ").split(" | ") for line in parts.text_of("tools/headline.rows").split("\n") if line.startswith(f"{kind} ")]
+
+
+PAGES = [Page(*words, [it.split(": ") for it in calls.split(", ")]) for *words, calls in rows("page")]
 # What all pages but the one that defines it use by its type alone.
-OPEN = {f"fb_jobs: Keys.{it}": "keys" for it in ("needs", "has_key", "scratch")}
+OPEN = dict(rows("open"))
 # The functions whose values a relation defines, each with the law that proves it.
-LAWS = {
-    "fb_text: Tokens.tokens_of": ("fb_text", "one_reading"),
-    "fb_parse: Body.body_of": ("fb_parse", "one_body"),
-    "fb_library: Near.carried_of": ("fb_library", "carried_is_all"),
-    "fb_library: Near.near_of": ("fb_library", "near_is_all"),
-    "fb_flatten: Far.far_of": ("fb_flatten", "far_is_all"),
-    "fb_flatten: Nets.net_at": ("fb_flatten", "net_at_is_net"),
-    "fb_deploy: Plans.plan_at": ("fb_deploy", "plan_at_is_plan"),
-}
+LAWS = {name: law.split(": ") for name, law in rows("law")}
 ITEM = re.compile(r"(?:abbrev |unfoldable )?(?:pub )?(record |data )?([^\s:(){}]+)(?= ?[:({]| :)")
 WORD = re.compile(r"(?<![\w'.])((?:[A-Za-z_][\w'-]*\.)*[A-Za-z_][\w'-]*|◌[^\s◌]+◌)")
 MODULE = re.compile(r"(?:pub )?use ([\w.]+)(?: as (\w+))?$")
@@ -263,9 +245,8 @@ def cited(crate, name):
     call = parts.function(crate, name)
     if call is None:
         raise SystemExit(f"headline: {crate} has no {name}")
-    clauses = "\n".join(line for line in call.contract.split("\n"))
-    found = [(call.uses.get(word), word) for word in WORD.findall(clauses)]
-    traits = [it for bound, trait in re.findall(r"\b([A-Z]): (\w+)", call.signature) if re.search(rf"\b{bound}\.", clauses) and (it := rust_trait(trait))]
+    found = [(call.uses.get(word), word) for word in WORD.findall(call.contract)]
+    traits = [it for bound, trait in re.findall(r"\b([A-Z]): (\w+)", call.signature) if re.search(rf"\b{bound}\.", call.contract) and (it := rust_trait(trait))]
     return [*traits, *(its for path, word in found if path and (its := defined(path, word)))]
 
 
@@ -291,7 +272,7 @@ def is_ours(path):
 
 def missing():
     """What a contract or a definition of the pages takes from a crate and the pages do not find, and what no page has."""
-    for crate, name in dict.fromkeys(call for page in PAGES for call in page.calls):
+    for crate, name in dict.fromkeys((crate, name) for page in PAGES for crate, name in page.calls):
         call = parts.function(crate, name)
         lost = {word for word in WORD.findall(call.contract) if is_ours(call.uses.get(word, "")) and not defined(call.uses[word], word)}
         yield from (f"{PAGE}: {crate}: {name} cites {word}, which is not found" for word in sorted(lost))
@@ -303,8 +284,8 @@ def missing():
     yield from (f"tools/headline.py: no page has {it}" for it in sorted({*OPEN, *LAWS} - {*there}))
 
 
-def lines_of(definitions):
-    return sum(displayed(it).count("\n") + 1 for it in definitions)
+def lines_of(texts):
+    return sum(it.count("\n") + 1 for it in texts)
 
 
 class Layer(NamedTuple):
@@ -319,7 +300,7 @@ class Layer(NamedTuple):
         return displayed(it, it.title in self.left_open)
 
     def lines(self, definitions):
-        return sum(self.text(it).count("\n") + 1 for it in definitions)
+        return lines_of(map(self.text, definitions))
 
     def sources(self):
         """The contracts and definitions that the page prints."""
@@ -353,8 +334,7 @@ def contract_of(crate, name):
 def table(heads, cells):
     """A table of the pages."""
     rows = [[*cells(it), *(f"{its:,}" for its in (len(it.whole), it.lines(it.whole), len(it.new), it.lines(it.new)))] for it in layers()]
-    heads = [*heads, "Definitions", "Lines", "Of these on no page above", "Lines"]
-    return "\n".join(f"| {' | '.join(it)} |" for it in [heads, ["---"] * len(heads), *rows]) + "\n"
+    return parts.table([*heads, "Definitions", "Lines", "Of these on no page above", "Lines"], rows)
 
 
 def how_much():

@@ -4,9 +4,10 @@
 tools/plain_words.py PLACE..     prints what it finds in these files, or in the comments of a group of sources (`--groups` lists them); the status is 1 if any
 tools/plain_words.py --groups    how many each group of sources has
 
-tools/check-docs asks for the pages of PAGES and those of wrong bodies, and for all comments and docstrings: of the code, specs and proofs of crates, of Python, Rust
-and shell. Code, quoted output, the targets of links and what tools make are not read. tools/plain_words.known has the groups that may have some, with how many:
-proofs and code of crates, whose comments can't be changed without a new proof, and the clients. `tools/check-docs --mend` lowers a number, and raises none.
+The words are those of tools/plain_words.forms. tools/check-docs asks for all pages, and for all comments and docstrings: of the code, specs and proofs of
+crates, of Python, Rust, shell, C, editors and files of rows, examples and settings. Code, quoted output, the targets of links and what tools make are not read.
+tools/plain_words.known has the groups that may have some, with how many: proofs and code of crates, whose comments can't be changed without a new proof, and
+the clients. `tools/check-docs --mend` lowers a number, and raises none.
 
 Why it is here: no linter knows these words."""
 import functools
@@ -19,6 +20,7 @@ import tokenize
 
 TOP = os.path.dirname(os.path.dirname(os.path.abspath(__file__)))
 KNOWN = f"{TOP}/tools/plain_words.known"
+MADE = "docs/SHOWN.md"
 # The groups of sources by their places, each with how it marks a comment; None is Python.
 SOURCES = (
     ("crates/*", "src/**/*.rt", r"^\s*//[/!] ?(.*)$", "///"),
@@ -28,90 +30,33 @@ SOURCES = (
     ("benchmarks/plain", "src/**/*.rs", r"^(?:.*\s)?//[/!]? ?(.*)$", "//"),
     *((place, "**/*", None, "Python") for place in ("tools", "oracle", "benchmarks", "examples", "editors", "packaging", "clients/python", "clients/tests")),
     ("clients", "*", None, "Python"),
+    ("tools", "*.c", r"^\s*(?:/?\*+|//) ?(.*?)(?:\*/)?$", "C"),
+    ("editors", "**/*.js", r"(?:^|\s)(?://|\*) ?(.*)$", "JavaScript"),
+    ("editors", "**/*.lua", r"(?:^|\s)-- ?(.*)$", "Lua"),
+    ("editors", "**/*.vim", r'^\s*" ?(.*)$', "Vim"),
+    ("editors", "**/*.el", r"^\s*;+ ?(.*)$", "Emacs"),
+    *((place, files, r"(?:^|\s)# ?(.*)$", files) for place, files in (
+        ("tools", "*.rows"), ("oracle/tests", "*.examples"), ("packaging", "completions/*"), ("packaging", "Dockerfile"), ("packaging", "*.service"),
+        ("examples", "*.y*ml"), (".", ".*.yaml"), ("benchmarks/plain", "*.toml"), ("clients", "*.toml"))),
     *((place, files, r"(?:^|\s)# (.*)$", "shell") for place, files in ((".", "run"), (".ci", "*"), ("tools", "*"), ("packaging", "*"), ("clients/tests", "*"))),
 )
-PAGES = {
-    "CHANGES.md",
-    "CONTRIBUTING.md",
-    "README.md",
-    "benchmarks/plain/README.md",
-    "clients/README.md",
-    "clients/tests/exchange/README.md",
-    "docs/ARCHITECTURE.md",
-    "docs/BENCHMARKS.md",
-    "docs/DECISIONS.md",
-    "docs/GATE.md",
-    "docs/LANGUAGE.md",
-    "docs/PROMISES.md",
-    "docs/PROVED.md",
-    "docs/PROVING.md",
-    "docs/RECIPES.md",
-    "docs/TRUST.md",
-    "docs/WORKBENCH.md",
-    "editors/README.md",
-    "editors/vscode/README.md",
-    "examples/README.md",
-    "oracle/README.md",
-    "packaging/INSTALL.md",
-}
-WORDS = {
-    r"tells?|told|telling": "reports, prints, names, shows; for `is told`: gets, learns",
-    r"stands?|stood|standing": "is, is in, occurs; for a name: means",
-    r"(?:is|are|was|were|be|been|as|what) said|said (?:of|by|to|above|below)": "is stated, is defined, is proved",
-    r"what there (?:is|was)": "name it",
-    r"as many as|so many|as much as|so much": "up to, the number of, or a number with its unit",
-    r"com(?:e|es|ing) to|came to": "reaches, becomes, ends in",
-    r"lies?|lying": "is",
-    r"fronts?(?! of\b)": "prefix",
-    r"in front of": "before",
-    r"behind": "after, or under",
-    r"anew": "again",
-    r"(?:broken|breaks?|broke|breaking) off": "interrupted",
-    r"go(?:es|ing)? on|went on|gone on": "continues",
-    r"(?:given|taken|handed|takes?|hands?|brings?) (?:\w+ )?along": "passed",
-    r"in hand": "held",
-    r"(?<!no )no more(?! than\b)": "no longer, or nothing else",
-    r"(?<!there )(?:is|are|was|were) none(?! of)": "is not one, or there is none",
-    r"judge[sd]?|judging": "check",
-    r"mend(?:s|ed|ing)?": "correct",
-    r"some \d[\d,.]*": "about, with the number",
-    r"wants? (?:its|the|a|an)": "needs",
-    r"want of": "lack of",
-    r"as it were|of then|of now": "a date, or leave it out",
-    r"(?:is|are|was|were) to be": "must be",
-    r"the other way about": "the other way round",
-    r"dear(?:er|est|ly)?": "expensive, slow",
-    r"at fault": "wrong",
-    r"(?:reasons?|of these) that holds?": "applies",
-    r"sp(?:eaks?|oke|eaking) of": "is about",
-    r"words of (?:its|their|his) own": "other words",
-    r"as (?:it|they) (?:was|were)": "unchanged",
-    r"for so long": "for that time",
-    r"t(?:aken|ook|akes?) up again": "resumed",
-    r"t(?:aken|ook|akes?) apart": "divided; for a value: destructured",
-    r"g(?:ives?|iven|ave) (?:out|away)": "uses, lends",
-    r"in the mean": "on average",
-    r"(?:to|can|could|may|might) be had": "is available",
-    r"counts? for nothing": "has no effect",
-    r"(?:is|are|was|were) (?:let in|looked for|thought of)": "is admitted, looked up, planned",
-    r"goes? by|went by|go by": "depends on",
-    r"(?:is|are|was|were|be) worked out|works? out": "is computed, calculates",
-    r"the other ones?(?= is| are)": "name it",
-    r"in short|as such": "leave it out",
-    r"(?:depends?|depending) on [^.;|]{1,80} alone": "depends only on",
-    r"for ever": "forever, or for good",
-    r"shall|hitherto|thereof|therein|thereby|whereby|whilst|lest|thus far": "a word of today",
-    r"parts of (?:100|a hundred)": "percent",
-    r"[Ww]here (?:it|there|this|that|one|none|no|nothing|somebody|both|either|neither|memory|all|any|two) \w+": "if",
-}
-# Words with several meanings, of which pages use one: `plain` is the program of benchmarks/plain, a look is a worker's for a job.
-MEANINGS = {
-    r"plain": "simple, ordinary, as a value",
-    r"look(?:s|ed|ing)? (?:at|up|right|before)|look-ups?|where to look": "reads, searches, seems",
-}
 CODE = re.compile(r"^<!-- (?:made|measured): (?s:.*?)^<!-- end -->$|^```(?s:.*?)^```$|^(?: {4}|\t).*$|`(?:[^`\n]|\n(?!\n))+`|\]\([^)\s]*\)|<[^>\n]*>", re.M)
-FORMS = [(re.compile(rf"\b(?:{form})\b", re.I), better) for form, better in WORDS.items()]
-OF_PAGES = [(re.compile(rf"\b(?:{form})\b", re.I), better) for form, better in MEANINGS.items()]
+
+
+def forms_of_file():
+    """The forms of tools/plain_words.forms with what is clearer: those for comments and pages, and those for pages alone."""
+    parts = []
+    with open(f"{TOP}/tools/plain_words.forms", encoding="utf-8") as lines:
+        for line in lines:
+            if line.startswith("#"):
+                parts.append([])
+            else:
+                form, _, better = line.rstrip("\n").partition(" = ")
+                parts[-1].append((re.compile(rf"\b(?:{form})\b", re.I), better))
+    return parts
+
+
+FORMS, OF_PAGES = forms_of_file()
 
 
 def blanked(found):
@@ -129,7 +74,7 @@ def found_in(page, text, forms=FORMS):
 
 def faults(page, text):
     """What check-docs prints of a page."""
-    forms = FORMS + OF_PAGES if page in PAGES else FORMS if page.endswith("/must-fail/README.md") else []
+    forms = [] if page == MADE else FORMS if page.endswith("/must-fail/README.md") else FORMS + OF_PAGES
     return [words for _, words in sorted(found_in(page, text, forms))]
 
 

@@ -25,7 +25,7 @@ def titles():
 
 
 def rows_of(number):
-    return [it for it in shown.points() if number in it.names]
+    return [it for it in shown.rows("promise") if number in it.names]
 
 
 def calls_of(number):
@@ -101,8 +101,7 @@ def in_words(names, above):
     places = [it for it in cited(map(law, names)) if it not in above]
     files = dict.fromkeys(file for crate, file, _ in places if crate == READERS)
     told = f"`{READERS}: {'`, `'.join(files)}`" if files else shown.definitions(places)
-    said = ", ".join(f"`{it}`" for it in names)
-    return f"{said} ({told})" if places else said
+    return shown.quoted(names) + (f" ({told})" if places else "")
 
 
 def points_of(number):
@@ -111,7 +110,8 @@ def points_of(number):
     all_below = below(number)
     said, readers = ([it for it in laws_of(number) if (law(it).crate == READERS) is is_for_readers] for is_for_readers in (False, True))
     yield "Contracts", ", ".join(map(linked, calls))
-    yield "Definitions", f"{shown.definitions(places) or 'none of the project'}; with all that these and the laws use, {len(all_below):,} definitions of {headline.lines_of(all_below):,} lines"
+    in_all = f"{len(all_below):,} definitions of {headline.lines_of(map(headline.displayed, all_below)):,} lines"
+    yield "Definitions", f"{shown.definitions(places) or 'none of the project'}; with all that these and the laws use, {in_all}"
     yield "Laws", in_words(said, places)
     yield "In other words", in_words(readers, places)
     yield "Wrong bodies", wrong_bodies(number)
@@ -131,10 +131,6 @@ def block(number):
 # ---- the tables
 
 
-def table(heads, rows):
-    return "\n".join(f"| {' | '.join(it)} |" for it in [heads, ["---"] * len(heads), *rows]) + "\n"
-
-
 def all_promises():
     rows, above = [], set()
     for number, title in titles().items():
@@ -142,9 +138,9 @@ def all_promises():
         folders = Counter(it.folder for it in edits_of(number))
         new = [it for it in below(number) if (it.path, it.name) not in above]
         above |= {(it.path, it.name) for it in new}
-        read = (len(below(number)), headline.lines_of(below(number)), headline.lines_of(new))
+        read = (len(below(number)), *(headline.lines_of(map(headline.displayed, it)) for it in (below(number), new)))
         rows.append([f"[{number} {title}](#{anchor})", *(f"{it:,}" for it in (*read, len(laws_of(number)), *(folders[it] for it in parts.FOLDERS), len(tests_of(number))))])
-    return table(["Promise", "Definitions", "Lines", "Lines in no row above", "Laws", "Wrong bodies in the gate", "outside the gate", "Tests"], rows)
+    return parts.table(["Promise", "Definitions", "Lines", "Lines in no row above", "Laws", "Wrong bodies in the gate", "outside the gate", "Tests"], rows)
 
 
 def sentence(crate):
@@ -159,16 +155,16 @@ def all_crates():
     for crate in graph:
         numbers = [it for it in titles() if any(crate == call[0] for call in calls_of(it)) or any(law(name).crate == crate for name in laws_of(it))]
         rows.append([f"[`{crate}`](../crates/{crate})", sentence(crate), ", ".join(numbers)])
-    return table(["Crate", "What it is for", "[Promises](PROMISES.md)"], rows)
+    return parts.table(["Crate", "What it is for", "[Promises](PROMISES.md)"], rows)
 
 
 def faults():
     """Promises without a row or a heading, and wrong bodies whose line names a promise that is not there by that title."""
-    said = {number for it in shown.points() for number in it.names}
+    said = {number for it in shown.rows("promise") for number in it.names}
     yield from (f"{shown.ROWS}: there is no promise {it}" for it in sorted(said - set(titles())))
     yield from (f"{shown.ROWS}: no row is for the promise {it}" for it in sorted(set(titles()) - said))
     there = {f"{number} {title}" for number, title in titles().items()}
-    named = {name for row in shown.points() for name in row.has("edits")}
+    named = {name for row in shown.rows("promise") for name in row.has("edits")}
     for it in parts.edits():
         if f"{it.crate}: {it.name}" not in named:
             yield from (f"crates/{it.crate}/must-fail/README.md: there is no promise {name}" for name in re.split(r", (?=P\d)", it.promise) if name not in there)

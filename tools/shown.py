@@ -13,23 +13,6 @@ ORACLE = [f"oracle/{it}.py" for it in ("oracle", "networks", "plans", "machine",
 PLAIN = "benchmarks/plain/src"
 KEYS = {"by", "without", "why", "laws", "oracle", "plain", "lines", "of", "through", "defined", "edits", "tests"}
 NONE = "**none**"
-HEAD = """# What is shown, and how
-
-For each public call, each refusal and each limit: its contract and definitions, a second form of these, the wrong bodies that the prover refused, and the tests.
-`tools/check-docs --mend` makes this page from the crates and `tools/shown.rows`.
-
-| Column | What it has |
-|---|---|
-| Contract | the functions whose contracts state it, and their promises ([PROMISES.md](PROMISES.md)) |
-| Defined by | the definitions that these contracts cite, or what contracts see of their types: `crate: File.name` is `crates/crate/specs/File.antt` |
-| In other words | laws that state it a second time; those of `fb_laws` are about texts and trees alone |
-| Written again | the same in the second implementation ([`oracle`](../oracle/README.md)), and in the ordinary program ([`plain`](../benchmarks/plain/README.md)) |
-| Wrong bodies | the number of edits of this call that the gate tries, and of others (`tools/more-edits`). `must-fail/README.md` of each crate names them |
-| Tests | the number of tests that make the call, directly or through calls above it, or send its request |
-| No memory | the test that refuses each allocation of the call in turn, or the call above through which a test does; "conversations" if only `tools/refuse --program` does; – if the call needs no memory ([TRUST.md](TRUST.md#each-allocation-refused-in-turn)) |
-
-[Why a cell says **none**](#why-a-cell-says-none) is at the end. [TRUST.md](TRUST.md#tested-only) names the tests of what no contract states.
-"""
 GAPS = ("No second form", "No wrong body", "No test", "No refused allocation", "No definition")
 
 
@@ -81,6 +64,7 @@ def sections():
     return found
 
 
+@functools.cache
 def rows(kind):
     return [row for _, some in sections() for row in some if row.kind == kind]
 
@@ -250,16 +234,16 @@ def memory_of(call, row):
     if not parts.wants_memory(call) and (is_maker or "alloc: Global" not in call.signature):
         return "–"
     tried = ", ".join(trials().get(call.full_name, {}))
-    above = ", ".join(f"`{it}`" for it in row.has("through") if it in trials())
-    by_program = all(f'op="{it}"' in parts.text_of("tools/refuse") for it in row.has("lines"))
+    above = quoted(it for it in row.has("through") if it in trials())
+    conversations = "".join(map(parts.text_of, parts.files("tools/conversations/*.jsonl")))
+    by_program = all(f'"op": "{it}"' in conversations for it in row.has("lines"))
     return tried or (f"through {above}" if above else "conversations" if row.has("lines") and by_program else "")
 
 
 def counted(counts, absent):
     """Numbers with what they count, and the calls that have none."""
     words = ", ".join(f"{number} {name}" for name, number in counts.items() if number)
-    without = ", ".join(f"`{it}`" for it in absent)
-    return f"{words}; {NONE} of {without}" if words and without else words or NONE
+    return f"{words}; {NONE} of {quoted(absent)}" if words and absent else words or NONE
 
 
 def count_edits(edits):
@@ -277,31 +261,21 @@ def again(row):
 
 def laws_of(row):
     """The laws that a row names, and those that its promises name for its calls."""
-    found = [it for by in points() if set(by.calls()) & {(row.crate, it) for it in row.names} for it in by.has("laws")]
+    found = [it for by in rows("promise") if set(by.calls()) & {(row.crate, it) for it in row.names} for it in by.has("laws")]
     return list(dict.fromkeys([*row.has("laws"), *found]))
 
 
-def laws(row):
-    return ", ".join(f"`{it}`" for it in laws_of(row))
+def quoted(names):
+    return ", ".join(f"`{it}`" for it in names)
 
 
 # ---- calls
 
 
-@functools.cache
-def points():
-    """The rows of promises."""
-    return rows("promise")
-
-
-def promises_of(crate, names):
-    return list(dict.fromkeys(number for name in names for it in points() if (crate, name) in it.calls() for number in it.names))
-
-
 def call_row(row, gaps):
     calls = [parts.function(row.crate, it) for it in row.names]
     edits, tests, memory = ([find(it, row) for it in calls] for find in (lambda call, _: edits_of(call), tests_of, memory_of))
-    promises = promises_of(row.crate, row.names)
+    promises = dict.fromkeys(number for name in row.names for it in rows("promise") if (row.crate, name) in it.calls() for number in it.names)
     has_form = laws_of(row) or again(row)
     without = {
         GAPS[0]: [] if has_form else row.names,
@@ -314,7 +288,7 @@ def call_row(row, gaps):
     return [
         ", ".join(f"[`{it}`](../{call.file})" for it, call in zip(row.names, calls)) + (f" ({', '.join(promises)})" if promises else ""),
         places,
-        laws(row) if has_form else NONE,
+        quoted(laws_of(row)) if has_form else NONE,
         again(row),
         counted(count_edits(sum(edits, [])), without[GAPS[1]]),
         counted(count_tests(sum(tests, [])), without[GAPS[2]]),
@@ -325,13 +299,9 @@ def call_row(row, gaps):
 # ---- refusals
 
 
-def names_variant(enum, variant):
-    return re.compile(rf"\b{enum}::{variant}\b|\b(?:refused|delivered|answer)\\?\":\\?\"{variant}\\?\"")
-
-
 def refused_row(row, gaps):
     enum, _, variant = row.names[0].partition(".")
-    has = names_variant(enum, variant)
+    has = re.compile(rf"\b{enum}::{variant}\b|\b(?:refused|delivered|answer)\\?\":\\?\"{variant}\\?\"")
     edits = [it for it in parts.edits() if has.search(it.text) or f"{it.crate}: {it.name}" in row.has("edits")]
     tests = tests_that(lambda item: has.search(item.text), [variant], row)
     places = [place_of(it) for it in row.has("defined")] or parts.defining(enum, variant)
@@ -339,7 +309,7 @@ def refused_row(row, gaps):
         gaps[gap] += [] if found else row.names
     return [
         f"`{variant}` of `{row.crate}: {enum}`",
-        ", ".join(f"`{it}`" for it in row.has("of")),
+        quoted(row.has("of")),
         definitions(places) or NONE,
         again(row),
         counted(count_edits(edits), []),
@@ -386,10 +356,10 @@ def limit_row(row, gaps):
         gaps[gap] += [] if found else row.names
     return [
         row.names[0],
-        ", ".join(f"`{it}`" for it in row.has("of")),
+        quoted(row.has("of")),
         definitions(place_of(it) for it in row.has("defined")) or NONE,
         again(row),
-        ", ".join(f"`{it.name}`" for it in edits) or NONE,
+        quoted(it.name for it in edits) or NONE,
         ", ".join(f"`{it.crate}`: `{it.name}`" for it in tests) or NONE,
     ]
 
@@ -407,15 +377,8 @@ COLUMNS = {
 CODES = "The rule of each code is in [LANGUAGE.md](LANGUAGE.md#faults-fb_iface-fb_faults-fb_expr-fb_ecc-fb_netcheck)."
 
 
-def table(kind, lines):
-    return [f"| {' | '.join(COLUMNS[kind])} |", f"|{'---|' * len(COLUMNS[kind])}", *(f"| {' | '.join(it)} |" for it in lines)]
-
-
-def gap_row(row, _):
-    return [row.names[0], ", ".join(f"`{it}`" for it in row.has("without")), ", ".join(row.has("why"))]
-
-
-MAKERS = {"call": call_row, "refused": refused_row, "limit": limit_row, "code": code_row, "gap": gap_row}
+MAKERS = {"call": call_row, "refused": refused_row, "limit": limit_row, "code": code_row,
+          "gap": lambda row, _: [row.names[0], quoted(row.has("without")), ", ".join(row.has("why"))]}
 
 
 def lines_of(kind, some, gaps):
@@ -424,14 +387,14 @@ def lines_of(kind, some, gaps):
 
 @functools.cache
 def made():
-    """The page, and under each kind of gap what has it."""
+    """The page, whose first part is written by hand, and under each kind of gap what has it."""
     gaps = {it: [] for it in GAPS}
-    text = [HEAD.rstrip()]
+    text = [parts.text_of(PAGE).partition("\n## ")[0].rstrip()]
     for heading, some in sections():
         kind = some[0].kind
         if kind == "promise":
             continue
-        text += ["", f"## {heading}", "", *([CODES, ""] if kind == "code" else []), *table(kind, lines_of(kind, some, gaps))]
+        text += ["", f"## {heading}", "", *([CODES, ""] if kind == "code" else []), parts.table(COLUMNS[kind], lines_of(kind, some, gaps), "---").rstrip("\n")]
     text += ["", "## In all", "", total()]
     return "\n".join(text) + "\n", gaps
 

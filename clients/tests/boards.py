@@ -94,8 +94,8 @@ class Viewer:
             line = self._answer.readline()
         news = json.loads(line[6:])
         self.about = news.get("about", self.about)
-        for unit, kind, revision, state, faults, file, _ in news["units"]:
-            self.units[unit] = {"kind": kind, "revision": revision, "state": state, "faults": faults, "file": file}
+        for unit, name, kind, revision, state, faults, file, _ in news["units"]:
+            self.units[unit] = {"name": name, "kind": kind, "revision": revision, "state": state, "faults": faults, "file": file}
         self._changes.update((it["serial"], it) for it in news["changes"])
         self.answers.update(((kind, unit), (serial, current)) for kind, unit, serial, current in news["answers"])
         self.ended, self.problems = news["ended"], news["problems"]
@@ -123,6 +123,10 @@ class Viewer:
     def settled(self, units: int) -> Viewer:
         """Waits until this number of units are there and none is pending."""
         return self.until(lambda it: len(it.units) == units and not {"pending", "unknown"} & it.states())
+
+    def faulty_at(self, unit: str, revision: int) -> bool:
+        """Whether it is known that a unit has this revision, and that it has faults."""
+        return self.state(unit) == "faulty" and self.units[unit]["revision"] == revision
 
     def states(self) -> set[str]:
         return {it["state"] for it in self.units.values()}

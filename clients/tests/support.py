@@ -1,6 +1,7 @@
 """What the tests share: the programs, the workbench that they run against, and the conveyor."""
 from __future__ import annotations
 
+import atexit
 import errno
 import json
 import os
@@ -28,6 +29,10 @@ sys.path.insert(0, str(CLIENTS / "python"))
 
 from bench61499 import HistoryFull, NoWorkbench, Session, find_program  # noqa: E402
 
+os.environ["XDG_RUNTIME_DIR"] = tempfile.mkdtemp()
+"""Where the hosts under test put their secrets, and where the clients find them."""
+atexit.register(shutil.rmtree, os.environ["XDG_RUNTIME_DIR"], ignore_errors=True)
+
 with suppress(NoWorkbench):
     # So all programs under test start the same one, and do not say that it is not proved.
     os.environ["BENCH61499_PROGRAM"] = find_program()
@@ -51,7 +56,7 @@ def serving(sessions: int, *more: str) -> AbstractContextManager[int]:
 
 
 def hosting(*more: str) -> AbstractContextManager[int]:
-    """A host, with more words if any; gives its port."""
+    """A host, with more words if any; gives its port. Clients find its secret by the port."""
     return _running("host", *more)
 
 

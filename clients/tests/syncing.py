@@ -162,12 +162,12 @@ class Person:
 class Host:
     """A host at one port that is killed and started again; each start has another workbench, without units."""
 
-    def __init__(self) -> None:
-        self.port = free_port()
+    def __init__(self, *words: str) -> None:
+        self.port, self._words = free_port(), words
         self.start()
 
     def start(self) -> None:
-        self._process = subprocess.Popen([workbench(), "host", "--port", str(self.port)], stdout=subprocess.PIPE, stderr=subprocess.DEVNULL, text=True)
+        self._process = subprocess.Popen([workbench(), "host", "--port", str(self.port), *self._words], stdout=subprocess.PIPE, stderr=subprocess.DEVNULL, text=True)
         assert self._process.stdout and self._process.stdout.readline().startswith("listening on ")
 
     def end(self) -> None:

@@ -22,15 +22,15 @@ class AnswersTest(unittest.TestCase):
     def setUp(self) -> None:
         self.chance = random.Random(1)
 
-    def each_text(self):
-        """Every fourth library: its texts with their URIs, and answers about them."""
-        for library in checked()[::4]:
+    def each_text(self, step=4):
+        """Every fourth library, or with another step: its texts with their URIs, and answers about them."""
+        for library in checked()[::step]:
             plant = Plant()
             for name, text in library.texts.items():
                 plant.put(Path(f"/plant/{name}.fb"), text)
             plant.refresh()
             self.places = {f"file:///plant/{name}.fb": Places(text) for name, text in library.texts.items()}
-            yield library, Answers(plant, lambda end: True, lambda path: [], self.fail, Mock(actions=lambda path, shown: []))
+            yield library, Answers(plant, lambda end: True, lambda path: [], self.fail, Mock(actions=lambda path, shown: []), dict)
 
     def check(self, answer):
         """All ranges of an answer, as it is sent, are ranges of the texts that it names."""
@@ -69,7 +69,7 @@ class AnswersTest(unittest.TestCase):
 
     def test_fixes(self):
         count = 0
-        for library, answers in self.each_text():
+        for library, answers in self.each_text(step=1):
             for name, text in library.texts.items():
                 document = {"uri": f"file:///plant/{name}.fb"}
                 for fault in library.faults[name]:

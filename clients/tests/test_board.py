@@ -67,8 +67,16 @@ class FolderTest(BoardTest):
         with at.viewer() as viewer:
             viewer.settled(len(STATES))
         self.assertEqual(viewer.units.keys(), STATES)
-        self.assertEqual(viewer.units["FEEDER"], {"kind": "FUNCTION_BLOCK", "revision": 1, "state": "fine", "faults": 0, "file": "FEEDER.fb"})
+        self.assertEqual(viewer.units["FEEDER"], {"name": "FEEDER", "kind": "FUNCTION_BLOCK", "revision": 1, "state": "fine", "faults": 0, "file": "FEEDER.fb"})
         self.assertEqual((viewer.about["title"], viewer.about["shared"], viewer.changes, viewer.ended), (".", False, [], ""))
+
+    def test_names_are_as_declared(self) -> None:
+        self.write("pump.fb", "FUNCTION_BLOCK Pump END_FUNCTION_BLOCK")
+        with self.start(".").viewer() as viewer:
+            viewer.settled(1)
+            self.assertEqual(viewer.units["PUMP"]["name"], "Pump")
+            self.edit("pump.fb", "FUNCTION_BLOCK Pump", "FUNCTION_BLOCK pump")
+            viewer.until(lambda it: it.units["PUMP"]["name"] == "pump")
 
     def test_a_file_that_is_changed(self) -> None:
         at = self.conveyor()
@@ -336,8 +344,8 @@ class SharedTest(BoardTest):
             at.json("/net", name="PLANT", aspect="1")
             viewer.settled(4)  # The types of its blocks are looked at too.
             self.assertEqual(viewer.units.keys(), {"PLANT", "FEEDER", "LAMP", "LIFTER"})
-            self.engineer.commit([Put("LAMP", self.engineer.revision("LAMP"), WRONG.replace("BLOCK A", "BLOCK LAMP"))])
-            viewer.until(lambda it: it.state("LAMP") == it.state("PLANT") == "faulty")
+            number = self.engineer.commit([Put("LAMP", self.engineer.revision("LAMP"), WRONG.replace("BLOCK A", "BLOCK LAMP"))])
+            viewer.until(lambda it: it.faulty_at("LAMP", number) and it.state("PLANT") == "faulty")
             unit = at.json("/unit", name="LAMP")
         self.assertEqual((unit["lines"], unit["faults"]), (None, [{"code": "WITH_UNKNOWN", "start": 39, "end": 40}]))
 
@@ -380,8 +388,8 @@ class SharedTest(BoardTest):
             self.check()
             viewer.settled(len(STATES))
             base = self.engineer.revision("FEEDER")
-            self.engineer.commit([Put("FEEDER", base, (CONVEYOR / "FEEDER.fb").read_text().replace("DONE TO IDLE", "DONE TO IDEL"))])
-            viewer.until(lambda it: it.state("FEEDER") == "faulty")
+            number = self.engineer.commit([Put("FEEDER", base, (CONVEYOR / "FEEDER.fb").read_text().replace("DONE TO IDLE", "DONE TO IDEL"))])
+            viewer.until(lambda it: it.faulty_at("FEEDER", number))
             unit = at.json("/unit", name="FEEDER")
             self.assertEqual((unit["note"], [it["code"] for it in unit["faults"]], "line" in unit["faults"][0]), (ANOTHER, ["STATE_UNKNOWN"], False))
             self.edit("FEEDER.fb", "DONE TO IDLE", "DONE TO IDEL")
@@ -514,7 +522,7 @@ class ReadsTest(BoardTest):
         at = self.start("--connect", f":{port}")
         with at.viewer() as viewer:
             viewer.settled(len(STATES))
-        self.assertEqual(viewer.units["PLANT"], {"kind": "SYSTEM", "revision": 1, "state": "fine", "faults": 0, "file": ""})
+        self.assertEqual(viewer.units["PLANT"], {"name": "PLANT", "kind": "SYSTEM", "revision": 1, "state": "fine", "faults": 0, "file": ""})
         for name, text in self.texts.items():
             unit = at.json("/unit", name=name)
             self.assertEqual((self.pieces(unit) + "\n", unit["note"], unit["faults"]), (text, "", []))

@@ -123,6 +123,19 @@ class UnitsTest(PageTest):
             self.browser.value(f"document.querySelector('[data-filter={name}]').click()")
             self.assertEqual((self.browser.value(rows), self.words(f"[data-filter={name}]")), (listed, words))
 
+    def test_names_are_as_declared(self) -> None:
+        """In the list, in the head, in the tables of the plant, and in the changes."""
+        self.write("Pump.fb", "FUNCTION_BLOCK Pump END_FUNCTION_BLOCK")
+        self.write("Plant.fb", "SYSTEM Plant END_SYSTEM")
+        self.see(self.start("."), 2)
+        self.assertEqual(self.browser.value("[...document.querySelectorAll('#units .row .name')].map((it) => it.textContent)"), ["Plant", "Pump"])
+        self.assertEqual(self.browser.value("document.querySelector('.plant td').textContent"), "Plant")
+        self.edit("Pump.fb", "Pump END", "Pump EVENT_INPUT E WITH X; END_EVENT END")
+        self.until_words("#changes", "Pump revision 1 → 2")
+        self.until_said("Pump: 1 fault")
+        self.browser.value("go('PUMP')")
+        self.until_seen("#unit", "Pump")
+
     def test_units_by_folder_and_by_system(self) -> None:
         """Each group has its number of units and of faults, and a click or Enter opens and closes it."""
         (self.folder / "more").mkdir()

@@ -21,6 +21,7 @@ from bench61499.cli.command import AGAIN, persistently
 from bench61499.cli.comparing import STATE, replace
 from bench61499.cli.looking import ONLY_ASKED
 from bench61499.language.units import Misuse, Unit
+from bench61499.secret import secret_file
 from bench61499.snapshot import Snapshot
 
 ASKED = f"{ONLY_ASKED}\n"
@@ -373,15 +374,16 @@ class EntranceTest(Shared):
 
     def test_a_secret(self):
         self.write("a.fb", GOOD)
-        secret = self.write("secret", "open sesame\n")
+        secret = self.write("secret", "open sesame, please\n")
         secret.chmod(0o600)
         with hosting("--secret", str(secret)) as port:
             self.assertEqual(self.check(port, "--replace", "--secret", "secret").returncode, 0)
             self.assertEqual(self.check(port, BENCH61499_SECRET_FILE="secret").returncode, 0)
             ran = self.check(port)
-            self.assertEqual((ran.returncode, ran.stderr), (2, f"check: the workbench at 127.0.0.1:{port} closed the connection before it answered: it may require a secret\n"))
-        for file, why in ("nowhere", "No such file or directory"), ("empty", "so it has no secret"):
-            self.write("empty", "\nno")
+            lack = f"check: the host lets in only who has its secret, and there is none in {secret_file(port)}: name its file with --secret\n"
+            self.assertEqual((ran.returncode, ran.stderr), (2, lack))
+        for file, why in ("nowhere", "No such file or directory"), ("empty", "its first line is empty"):
+            self.write("empty", "\nno").chmod(0o600)
             self.assertIn(why, self.check(port, "--secret", file).stderr)
 
     def test_all_sessions_are_in_use(self):

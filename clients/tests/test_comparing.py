@@ -168,6 +168,13 @@ class KnowingTest(ComparingTest):
         editor.await_told("A.fb")
         self.assertEqual(self.text(), f"{GOOD} ")
 
+    def test_a_type_that_somebody_else_has_removed_is_not_there(self) -> None:
+        """Its file is, and has no fault."""
+        self.write("B.fb", "FUNCTION_BLOCK B\n  FBS X : A; END_FBS\nEND_FUNCTION_BLOCK\n")
+        editor = self.opened(GOOD)
+        self.other.commit([Remove("A", self.other.text("A").revision)])
+        editor.await_told("B.fb", (1, "there is no type A"))
+
     def test_nobody_types(self) -> None:
         """Nothing is recorded, and nobody else's commit has anything recorded but the work that it makes."""
         write_hall(self.folder)
@@ -295,6 +302,15 @@ class ChoosingTest(ComparingTest):
         editor.await_told("A.fb")
         self.assertEqual(self.text(), solved)
 
+    def test_mine_is_not_offered_with_marked_lines(self) -> None:
+        editor = self.conflict(MINE, OTHER)
+        self.do(editor, MERGE)
+        self.let_edit(editor, MINE, 3)
+        self.other.commit([Put("A", self.other.text("A").revision, f"{OTHER} ")])
+        while not (titles := self.titles(editor)):
+            editor.read()
+        self.assertEqual(titles, ["Take the team's text", "Compare", "Merge"])
+
     def test_texts_are_compared_in_a_file_that_can_only_be_read(self) -> None:
         editor = self.conflict(MINE, THEIRS)
         self.do(editor, COMPARE)
@@ -417,6 +433,24 @@ class ClosedTest(ComparingTest):
     def await_units(self, *units: str) -> None:
         while [it.unit for it in self.other.units().units] != list(units):
             self.other.watch(self.other.status().calls, 10)
+
+    def test_a_unit_of_others_is_renamed(self) -> None:
+        """By one commit: the old name goes, though it came from elsewhere, unless somebody changes that unit meanwhile."""
+        self.other.commit([Put("A", 0, GOOD), Put("B", 0, GOOD.replace("A", "B", 1))])
+        self.file.write_text(GOOD)
+        editor = self.beside()
+        for new, left, is_changed in (("NEW", ["B", "NEW"], False), ("LAST", ["B", "LAST", "NEW"], True)):
+            editor.open(self.file)
+            editor.request("textDocument/rename", textDocument={"uri": self.file.as_uri()}, position={"line": 0, "character": 15}, newName=new)
+            if is_changed:
+                number = self.other.commit([Put("NEW", self.other.text("NEW").revision, f"{self.file.read_text()} ")])
+                editor.await_told("A.fb", changed("NEW", number))
+            editor.change(self.file, GOOD.replace("A", new, 1))
+            self.file.write_text(GOOD.replace("A", new, 1))
+            editor.save(self.file)
+            editor.shut(self.file)
+            self.await_units(*left)
+        self.assertEqual(self.other.status().commits, 4)
 
     def test_a_few_units_that_vanish_are_removed(self) -> None:
         self.vanish(3)

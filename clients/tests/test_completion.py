@@ -1,9 +1,9 @@
 """What is offered at each place, held to units without faults and to the workbench."""
 import random
 import unittest
-from pathlib import Path
 
 from generated import faults_of, so_many, sound_libraries
+from plants import plant_of
 from support import workbench
 
 from bench61499 import Session
@@ -15,14 +15,6 @@ from bench61499.lsp.completion import candidates, declared
 OF_NAMES = {"UNKNOWN_TYPE", "WRONG_KIND", "WITH_UNKNOWN", "STATE_UNKNOWN", "EVENT_UNKNOWN", "ALGORITHM_UNKNOWN", "VARIABLE_UNKNOWN",
             "PORT_UNKNOWN", "PORT_SIDE", "PARAMETER_UNKNOWN", "NO_SUCH_RESOURCE"}
 OF_DESTINATIONS = OF_NAMES | {"DATA_TYPE"}
-
-
-def plant_of(texts: dict[str, str]) -> Plant:
-    plant = Plant()
-    for name, text in texts.items():
-        plant.put(Path(f"/plant/{name}.fb"), text)
-    plant.refresh()
-    return plant
 
 
 class CompletionTest(unittest.TestCase):

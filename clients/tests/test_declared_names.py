@@ -69,6 +69,33 @@ class ProgramsTest(InFolder):
         for name, text in UNITS.items():
             self.write(f"{name}.fb", text)
 
+    def test_a_trace(self) -> None:
+        ran = run("trace", "line", "water.left.one.start", "--files", ".", "--program", workbench(), folder=self.folder)
+        self.assertEqual(ran.stdout.splitlines(), [
+            "Water.Left.One.Start of Pump on Plc.Main is fed by",
+            "  1 Water.Left.Two : Tank on Plc.Main", "      event Water.Left.Two.Go -> Water.Left.One.Start",
+            "  1 Water.Source : Tank on Plc.Other", "      event Water.Source.Go -> Water.Left.One.Start, cut",
+            "2 blocks on 2 resources, 1 cut link",
+        ])
+
+    def test_a_drawing(self) -> None:
+        drawn = run("draw", "line", "--files", ".", "--program", workbench(), folder=self.folder).stdout
+        for words in ("<B>Line</B>", "<B>Water.Left.One</B><BR/><I>Pump</I>", ">Start<", "&raquo; Motor", 'label="Plc.Main"'):
+            self.assertIn(words, drawn)
+        self.assertIn('label="In"', run("draw", "part", "--files", ".", "--program", workbench(), folder=self.folder).stdout)
+
+    def test_why_there_is_no_plan(self) -> None:
+        self.write("Tank.fb", TANK.replace("Drive;", "Driv;"))
+        for name in ("plan", "draw"):
+            ran = run(name, "line", "--files", ".", "--program", workbench(), folder=self.folder)
+            self.assertRegex(ran.stderr, f"^{name}: Line has no (plan|network): .*Tank")
+        ran = run("check", ".", "--plans", "--program", workbench(), folder=self.folder)
+        self.assertIn("BLOCKED: Line has no plan: DRIV is absent, Part and Tank have faults\n", ran.stdout)
+        self.write("Tank.fb", TANK)
+        self.write("Line.fb", LINE.replace("    Water.Source ON Plc.Other;\n", ""))
+        ran = run("plan", "line", "--files", ".", "--program", workbench(), folder=self.folder)
+        self.assertEqual(ran.stderr, "plan: Line has no plan:\n  no mapping gives Water.Source a resource\n")
+
     def test_a_plan(self) -> None:
         ran = run("plan", "line", "--files", ".", "--program", workbench(), folder=self.folder)
         self.assertEqual((ran.stdout.splitlines(), ran.stderr), ([

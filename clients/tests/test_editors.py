@@ -48,10 +48,11 @@ function Undo(file)
   return 'undone'
 end
 
--- Chooses one of the code actions at the first line, where it is offered.
-function Choose(file, title)
+-- Chooses one of the code actions at a word, or at the first line, where it is offered.
+function Choose(file, title, word)
   vim.cmd('buffer ' .. buffer(file))
   vim.fn.cursor(1, 1)
+  if word then vim.fn.search(word) end
   vim.ui.select = function(actions, options, choose)
     for _, it in ipairs(actions) do
       if options.format_item(it) == title then return choose(it) end
@@ -193,6 +194,21 @@ class TwoEditorsTest(InFolder):
             self.assertEqual(one.ask("Text", "FEEDER.fb"), other.ask("Text", "FEEDER.fb"))
             self.see(one, "FEEDER.fb", "")
             self.assertEqual(file.read_text(), before)
+
+    def test_a_part_of_a_network_becomes_a_subapplication_and_is_undone(self) -> None:
+        with hosting() as port:
+            one = self.editor("one", port, "STATION.fb")
+            before = one.ask("Text", "STATION.fb")
+            until(lambda: one.ask("Choose", "STATION.fb", "Extract BELT into a subapplication STATION_PART", "BELT") == "chosen" and one.ask("Text", "STATION.fb") != before)
+            self.assertIn("SUBAPPS PART : STATION_PART; END_SUBAPPS", one.ask("Text", "STATION.fb"))
+            self.assertIn("BELT : FEEDER(LIMIT := 80);", one.ask("Text", "STATION_PART.fb"))
+            for file in ("STATION.fb", "STATION_PART.fb"):
+                self.see(one, file, "")
+            with Session.connect("127.0.0.1", port) as session:
+                until(lambda: session.text("STATION_PART").revision)
+                until(lambda: session.peek("faults", "STATION") == () and session.peek("faults", "STATION_PART") == ())
+            one.ask("Undo", "STATION.fb")
+            self.assertEqual(one.ask("Text", "STATION.fb"), before)
 
 
 EMACS_SCRIPT = """

@@ -165,9 +165,9 @@ class BootTest(ExchangeTest):
 
     def test_no_plan(self) -> None:
         ran = self.boot(system("APPLICATION App FBS X : Maker; END_FBS END_APPLICATION", ""), "--cold", "App.X.Go")
-        self.assertEqual((ran.returncode, ran.stderr), (1, "exchange: CELL has no plan:\n  no mapping gives APP.X a resource\n"))
+        self.assertEqual((ran.returncode, ran.stderr), (1, "exchange: Cell has no plan:\n  no mapping gives App.X a resource\n"))
         ran = self.boot("SYSTEM Cell", "--cold", "App.X.Go")
-        self.assertEqual((ran.returncode, ran.stderr), (1, "exchange: CELL has no plan, as its text has a SYNTAX fault; check shows it\n"))
+        self.assertEqual((ran.returncode, ran.stderr), (1, "exchange: Cell has no plan, as its text has a SYNTAX fault; check shows it\n"))
         ran = self.boot("SYSTEM Other END_SYSTEM")
         self.assertEqual((ran.returncode, ran.stderr), (2, "exchange: no file declares the unit CELL\n"))
         self.assertFalse((self.folder / "boot").exists())

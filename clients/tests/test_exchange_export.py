@@ -102,9 +102,9 @@ class ExportTest(ExchangeTest):
         text = BLOCK.format("VAR_INPUT\nX : {};\nEND_VAR")
         for words, expected in (
             ("ARRAY [0..4] OF INT", 'Type="INT" ArraySize="5"'), ("ARRAY [0..04] OF INT", 'ArraySize="0..04"'), ("ARRAY [-1..+1, 0..2] OF T", 'ArraySize="-1..+1,0..2"'),
-            ("ARRAY [0..16#F] OF INT", 'Type="ARRAY [0..16#F] OF INT"'), ("INT[5]", 'Type="INT[5]"'), ("INT := ['2 * 3']", 'InitialValue="2 * 3"'),
+            ("ARRAY [0..16#F] OF INT", 'Type="ARRAY [0..16#F] OF INT"'), ("INT[5]", 'Type="INT[5]"'), ("INT := ['2 * * 3']", 'InitialValue="2 * * 3"'),
             ("INT := ['5']", "InitialValue=\"['5']\""), ("INT := ['']", "InitialValue=\"['']\""), ("ARRAY [0..1] OF INT := '2*3'", 'InitialValue="2*3"'),
-            ("TYPE_POINTER_TO_X := ['POINTER TO X']", 'Type="POINTER TO X"'), ("ARRAY_ANY_OF_INT := ['ARRAY [*] OF INT := [1]']", 'ArraySize="*" InitialValue="[1]"'),
+            ("TYPE_POINTER_TO_X := ['POINTER TO X']", 'Type="POINTER TO X"'), ("ARRAY_2_OF_INT := ['ARRAY [2 +] OF INT := [1]']", 'ArraySize="2 +" InitialValue="[1]"'),
             ("TYPE_POINTER_TO_X := ['POINTER TO Y']", 'Type="TYPE_POINTER_TO_X" InitialValue="POINTER TO Y"'),
             ("NO_TYPE := ['no type']", 'Type=""'), ("INT := 'a$Lb'", "InitialValue=\"'a$Lb'\""),
         ):

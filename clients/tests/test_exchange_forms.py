@@ -11,7 +11,7 @@ from exchanging import ExchangeTest, exported, imported, spelling, texts
 from generated import faults_of
 from support import workbench
 
-from generate import Gen, Nets, deep_library, step_libraries, token_library  # isort: skip
+from generate import Gen, Nets, deep_library, token_library  # isort: skip
 
 from bench61499 import Places, Session
 from bench61499.exchange.exchanged import Unit, written
@@ -19,20 +19,19 @@ from bench61499.exchange.forms import broken_statement, is_array, is_constant, i
 from bench61499.exchange.from_text import NoUnit, read_or_none, read_unit
 from bench61499.language.layout import formatted
 
-LEVEL = "structures"
 JOINED = re.compile(r"(\w+(?:\.\w+)?)\s*(?:&|\bAND\b)\s*(.*)", re.IGNORECASE | re.DOTALL)
 OR = re.compile(r"\bX?OR\b", re.IGNORECASE)
 
 
 def libraries(seed: int, count: int) -> Iterator[dict[str, str]]:
-    """Random units of the kinds plain, tokens, deep and nets."""
+    """Random units of all kinds, with faults, with odd characters, with deep nesting, and in networks."""
     rng = random.Random(seed)
-    plain = Gen(rng, LEVEL)
+    faulty, nets = Gen(rng), Nets(rng)
     for _ in range(count):
-        yield plain.library()
-        yield token_library(rng, LEVEL)
-        yield deep_library(rng, LEVEL)
-    yield from step_libraries(Nets(rng, LEVEL), count)
+        yield faulty.library()
+        yield token_library(rng)
+        yield deep_library(rng)
+        yield nets.library()
 
 
 def outside_brackets(words: str) -> str:

@@ -178,10 +178,10 @@ class ImportTest(ExchangeTest):
         self.assertEqual(faults(self.lib), [])
 
     def test_a_name_for_a_guard_that_is_not_read(self) -> None:
-        chart = '<BasicFB><ECC><ECState Name="S"/><ECTransition Source="S" Destination="S" Condition="E[F(1)]"/></ECC></BasicFB>'
+        chart = '<BasicFB><ECC><ECState Name="S"/><ECTransition Source="S" Destination="S" Condition="E[F(1) F(2)]"/></ECC></BasicFB>'
         given = '<InputVars><VarDeclaration Name="Not_Read" Type="BOOL"/></InputVars><Plugs><AdapterDeclaration Name="NOT_READ_1" Type="P"/></Plugs>'
         _, text = self.block(chart, given)
-        self.assertIn("S TO S := E [NOT_READ_2]; (* E[F(1)] *)", text)
+        self.assertIn("S TO S := E [NOT_READ_2]; (* E[F(1) F(2)] *)", text)
 
     def test_names_of_instances_that_are_no_words(self) -> None:
         network = '<FBNetwork><FB Name="my block" Type="T"/><EventConnections><Connection Source="my block.my out" Destination="go in"/></EventConnections></FBNetwork>'
@@ -220,11 +220,12 @@ class ImportTest(ExchangeTest):
     def test_types_and_sizes(self) -> None:
         ranges = '<Subrange LowerLimit="1" UpperLimit="N"/>'
         rows = (
-            ('VarDeclaration Name="X" Type="INT" ArraySize="99999999999999999999"', "", "ARRAY_99999999999999999999_OF_INT := ['ARRAY [99999999999999999999] OF INT']"),
+            ('VarDeclaration Name="X" Type="INT" ArraySize="99999999999999999999"', "", "ARRAY_99999999999999999999_OF_INT"),
             ('VarDeclaration Name="X" Type="POINTER TO INT" InitialValue="0"', "", "TYPE_POINTER_TO_INT := ['POINTER TO INT := 0']"),
             ('VarDeclaration Name="X" Type="" ArraySize="2"', "", "NO_TYPE := ['ARRAY [2] OF no type']"),
             ('VarDeclaration Name="X" Type="a::Type"', "", "Type_"),
-            ('ArrayVarDeclaration Name="X" Type="INT"', ranges, "ARRAY_1_N_OF_INT := ['ARRAY [1..N] OF INT']"),
+            ('ArrayVarDeclaration Name="X" Type="INT"', ranges, "ARRAY_1_N_OF_INT"),
+            ('VarDeclaration Name="X" Type="INT" ArraySize="2 +" InitialValue="[1]"', "", "ARRAY_2_OF_INT := ['ARRAY [2 +] OF INT := [1]']"),
             ('SubrangeVarDeclaration Name="X" Type="INT" InitialValue="3"', ranges.replace("N", "5"), "INT := 3"),
         )
         for attributes, inner, expected in rows:

@@ -63,9 +63,8 @@ class KeptTest(ExchangeTest):
         self.assertGreater(tried, 20)
 
     def is_known(self, it: Fact) -> bool:
-        is_untyped = it[0] == "System Cell" and any(step in it for step in ("SubApp Outer", "Group Rest"))
         is_array = "ArrayVarDeclaration Grid" in it
-        return is_untyped or is_array or it[-1] in (*BROKEN, "D2.R1.Merge3", "5", "GO") or it[-3] == "Parameter Load"
+        return is_array or it[-1] in (*BROKEN, "D2.R1.Merge3", "5", "GO") or it[-3] == "Parameter Load"
 
     def test_a_block(self) -> None:
         self.comes_back("""<FBType Name="F" Comment="a" GUID="1"><Attribute Name="A" Value="(* 1 *)"/><InterfaceList Zoom="2"><EventInputs><Event Name="E" Type="Event"/></EventInputs>
@@ -116,7 +115,8 @@ class KeptTest(ExchangeTest):
         self.write("in/Colour.dtp", '<DataType Name="Colour"><EnumeratedType/></DataType>')
         self.write("in/Scale.fct", '<FunctionType Name="Scale"/>')
         _, _, ran = self.back(words='<System Name="F"><Application Name="A"><SubAppNetwork><FB Name="M" Type="T"/></SubAppNetwork></Application><Mapping From="A.M" To="D.R.Other"/></System>', ending="sys")
-        self.assertEqual((ran.lines, ran.status), (["1 unit, 1 file in out; 3 things of the imported project are not in them"], 1))
+        self.assertEqual((ran.lines, ran.status), (["1 unit, 3 files in out; 1 thing of the imported project is not in them"], 1))
+        self.assertEqual({it.name for it in (self.folder / "out").iterdir()}, {"F.sys", "Colour.dtp", "Scale.fct"})
 
     def test_what_is_no_longer_there(self) -> None:
         self.back(words='<SubAppType Name="F"><SubAppNetwork><FB Name="A" Type="T"><Attribute Name="Hidden" Value="true"/></FB></SubAppNetwork></SubAppType>', ending="sub")

@@ -45,7 +45,7 @@ class ProjectTest(ExchangeTest):
         told = [it.split(": ", 2)[1:] for it in self.ran.lines[:-1]]
         self.assertEqual(sorted(words for kind, words in told if kind == "left out"), sorted(ONLY_TOLD))
         self.assertEqual(Counter(kind for kind, _ in told), {"left out": len(ONLY_TOLD), "unchecked": 6, "note": 10})
-        self.assertEqual(self.ran.lines[-1], f"28 files, 32 units in {self.lib}: 26 left out, 6 unchecked")
+        self.assertEqual(self.ran.lines[-1], f"28 files, 32 units and 2 files without one in {self.lib}: 26 left out, 6 unchecked")
 
     def test_check_finds_nothing(self) -> None:
         ran = run("check", "lib", "--plans", "--program", workbench(), folder=self.folder)
@@ -70,17 +70,14 @@ class ProjectTest(ExchangeTest):
             self.assertIn(words, plc)
         self.assertNotIn("PumpUnit", plc)
 
-    def test_export_is_whole_but_for_what_it_counts(self) -> None:
+    def test_export_is_whole(self) -> None:
         with at(self.folder):
             ran = exported(["lib"], Path("xml"))
-        self.assertEqual((ran.errors, ran.status), ([], 1))
-        self.assertEqual(ran.lines, ["27 units, 27 files in xml; 3 things of the imported project are not in them"])
+        self.assertEqual((ran.errors, ran.lines, ran.status), ([], ["27 units, 28 files in xml: all whole"], 0))
         before, after = (self.files(folder) for folder in (PROJECT, self.folder / "xml"))
-        untyped = "PumpStation__StationApp__Signals.sub"
-        missing = {"Type Library/Plant/Clamp.fct", "Type Library/Plant/Plant.gcf"}  # These two, and that Signals has no type, are the three things.
-        self.assertEqual((before.keys() - after.keys(), after.keys() - before.keys()), (missing, {untyped}))
-        for name in before.keys() & after.keys():
-            lost = [it for it in facts(before[name]) - facts(after[name]) if "SubApp Signals" not in it]
+        self.assertEqual(before.keys(), after.keys())
+        for name in before:
+            lost = facts(before[name]) - facts(after[name])
             self.assertEqual([it for it in lost if not self.is_number(it)], [], name)
 
     def is_number(self, it: tuple[str, ...]) -> bool:
@@ -113,7 +110,7 @@ class ProjectTest(ExchangeTest):
             ElementTree.ElementTree(root).write(file)
         with at(self.folder):
             self.assertEqual(exported(["lib"], Path("project"), replace=True).errors, [])
-        self.assertEqual(self.files(self.folder / "project").keys() - self.files(PROJECT).keys(), {"PumpStation__StationApp__Signals.sub"})
+        self.assertEqual(self.files(self.folder / "project").keys(), self.files(PROJECT).keys())
 
 
 if __name__ == "__main__":

@@ -9,7 +9,7 @@ from exchanging import ExchangeTest, Ran, at, exported, faults, imported, spelli
 from support import run, workbench
 
 from bench61499.exchange.names import with_points
-from bench61499.exchange.widening import is_converted
+from bench61499.language.widening import is_converted
 
 POINT = '<DataType Name="Point"><StructuredType><VarDeclaration Name="X" Type="INT"/><VarDeclaration Name="Größe" Type="REAL"/></StructuredType></DataType>'
 

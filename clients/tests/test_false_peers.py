@@ -13,10 +13,9 @@ from pathlib import Path
 from typing import Any
 from unittest.mock import patch
 
-from support import CLIENTS, GREETING, InFolder, answering, hosting, workbench
+from support import CLIENTS, GREETING, answering, hosting, workbench
 
-from bench61499 import BadReply, Change, ConnectionEnded, NoAnswer, NoResult, NoWorkbench, Session, StaleBase
-from bench61499.cli.command import read_secret
+from bench61499 import BadReply, Change, ConnectionEnded, NoAnswer, NoResult, Session, StaleBase
 from bench61499.language.units import Misuse, Unit, commit_units
 from bench61499.session import REPLY_LIMIT
 
@@ -100,7 +99,7 @@ class ServerTest(unittest.TestCase):
             self.assertRaisesRegex(NoResult, "^others have changed A, B again and again$", session.present, ["A", "B"])
 
     def test_localhost_is_the_address_at_which_a_host_listens(self) -> None:
-        """Another one, to which the name leads first, may be taken by any user of the machine; it would get the secret."""
+        """Another one, to which the name leads first, may be taken by any user of the machine; it would get the texts."""
         asked: list[object] = []
         look_up = socket.getaddrinfo
 
@@ -112,18 +111,6 @@ class ServerTest(unittest.TestCase):
             for host in ("localhost", "", "LOCALHOST", "localhost."):
                 Session.connect(host, port).close()
         self.assertEqual(set(asked), {"127.0.0.1"})
-
-
-class SecretTest(InFolder):
-    def test_a_secret_that_others_can_read_is_not_sent(self) -> None:
-        secret = self.write("secret", "open sesame\n")
-        secret.chmod(0o644)
-        self.assertRaisesRegex(NoWorkbench, "^other users of this machine can read the secret in .*; chmod 600 keeps it from them$", read_secret, str(secret))
-        secret.chmod(0o640)
-        self.assertEqual(read_secret(str(secret)), "open sesame")
-
-    def test_a_file_without_an_end_is_no_secret(self) -> None:
-        self.assertEqual(len(read_secret("/dev/zero") or ""), 8_192)
 
 
 class EditorTest(unittest.TestCase):

@@ -9,7 +9,7 @@ from pathlib import Path
 from editing import Editor, LspTest
 from generated import so_many, sound_libraries
 from hall import hall
-from support import TestCase, workbench
+from support import TestCase, until, workbench
 
 from bench61499 import Places, Put, Session, batches
 from bench61499.language.declarations import PARTS
@@ -117,6 +117,7 @@ class LensTest(ConveyorTest):
     def setUp(self) -> None:
         super().setUp()
         self.server.await_codes(PLANT=[])
+        until(lambda: self.lenses("STATION"))
 
     def lenses(self, name: str) -> list[str]:
         return [it["command"]["title"] for it in self.server.ask("codeLens", self.file(name))]

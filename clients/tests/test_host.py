@@ -1,15 +1,17 @@
 """A host by its lines alone: first lines of any form, workers after the last connection, and what it prints of a session."""
 from __future__ import annotations
 
+import hmac
 import json
+import os
 import socket
 import struct
 import subprocess
-import tempfile
 import time
 import unittest
+from pathlib import Path
 
-from support import workbench
+from support import InFolder, free_port, workbench
 
 TAKE = b'{"op":"take"}\n'
 NO_JOB = b'{"job":0}\n'
@@ -20,12 +22,12 @@ SECONDS = 60.0
 
 
 class OneConnection(unittest.TestCase):
-    """Each test starts a host that closes after one connection."""
+    """Each test starts a host that closes after one session."""
 
     more: tuple[str, ...] = ()
 
     def setUp(self) -> None:
-        words = [workbench(), "host", "--port", "0", "--connections", "1", "--sessions", "1", *self.more]
+        words = [workbench(), "host", "--port", "0", "--open", "--connections", "1", "--sessions", "1", *self.more]
         self.host = subprocess.Popen(words, stdin=subprocess.DEVNULL, stdout=subprocess.PIPE, stderr=subprocess.PIPE)
         self.addCleanup(self.host.communicate)
         self.addCleanup(self.host.kill)
@@ -55,7 +57,7 @@ class HostTest(OneConnection):
         self.assertEqual((0, b"closed\n", b""), self.closed())
 
     def test_a_long_first_line_is_answered(self) -> None:
-        for piece in (b" " * LONGEST_HEAD, b" " * 1_000, TAKE):
+        for piece in (b"{" + b" " * LONGEST_HEAD, b" " * 1_000, TAKE[1:]):
             self.peer.sendall(piece)
         self.assertEqual(NO_JOB, self.lines.readline())
 
@@ -66,7 +68,15 @@ class HostTest(OneConnection):
             time.sleep(0.01)
         self.assertEqual(NO_JOB, self.lines.readline())
 
-    def test_workers_go_on_after_the_last_connection(self) -> None:
+    def test_only_blanks_are_no_first_line(self) -> None:
+        self.peer.sendall(b" " * LONGEST_HEAD)
+        self.assertEqual(b"", self.lines.read())
+        with socket.create_connection(self.peer.getpeername(), timeout=SECONDS) as peer, peer.makefile("rb") as lines:
+            peer.sendall(TAKE)
+            self.assertEqual(NO_JOB, lines.readline())
+        self.assertEqual((0, b"closed\n", b"bench61499: connections turned away: 1, for a wrong secret: 0\n"), self.closed())
+
+    def test_workers_go_on_after_the_last_session_has_begun(self) -> None:
         changes = [{"put": f"U{number}", "base": 0, "text": BLOCK.format(name=f"U{number}")} for number in range(16)]
         self.assertEqual(b'{"commit":1}\n', self.asked({"op": "commit", "changes": changes}))
         end = time.monotonic() + SECONDS
@@ -95,22 +105,85 @@ class IdleTest(OneConnection):
         self.assertLess(passed, 90)
 
 
-class SecretTest(unittest.TestCase):
+def proof(line: bytes, secret: bytes, client: str) -> bytes:
+    """What a client with this secret and this challenge answers to the first line of a host."""
+    code = hmac.digest(secret, f"client{json.loads(line)['challenge']}{client}".encode(), "sha256")
+    return f'{{"proof":"{code.hex()}","challenge":"{client}"}}\n'.encode()
+
+
+class SecretTest(InFolder):
+    def start(self, *words: str, port: int = 0, connections: int = 1) -> tuple[subprocess.Popen[bytes], int]:
+        command = [workbench(), "host", "--port", str(port), "--connections", str(connections), *words]
+        host = subprocess.Popen(command, stdin=subprocess.DEVNULL, stdout=subprocess.PIPE, stderr=subprocess.PIPE)
+        self.addCleanup(host.communicate)
+        self.addCleanup(host.kill)
+        assert host.stdout
+        return host, int(host.stdout.readline().rpartition(b":")[2])
+
     def test_a_secret_whose_line_ends_in_cr_lf_has_the_cr(self) -> None:
-        with tempfile.NamedTemporaryFile() as secret:
-            secret.write(b"a secret\r\n")
-            secret.flush()
-            words = [workbench(), "host", "--port", "0", "--connections", "2", "--sessions", "1", "--secret", secret.name]
-            with subprocess.Popen(words, stdin=subprocess.DEVNULL, stdout=subprocess.PIPE) as host:
-                assert host.stdout is not None
-                port = int(host.stdout.readline().rpartition(b":")[2])
-                for line, replies in ((b"a secret\n", b""), (b"a secret\r\n", NO_JOB)):
-                    with socket.create_connection(("127.0.0.1", port), timeout=SECONDS) as peer:
-                        peer.sendall(line + TAKE)
-                        peer.shutdown(socket.SHUT_WR)
-                        with peer.makefile("rb") as lines:
-                            self.assertEqual(replies, lines.read())
-                self.assertEqual((b"closed\n", 0), (host.communicate(timeout=2 * SECONDS)[0], host.returncode))
+        file = self.write("secret", b"a secret in a file\r\n")
+        file.chmod(0o600)
+        host, port = self.start("--secret", str(file))
+        for secret, lets_in in ((b"a secret in a file", False), (b"a secret in a file\r", True)):
+            with socket.create_connection(("127.0.0.1", port), timeout=SECONDS) as peer, peer.makefile("rb") as lines:
+                peer.sendall(proof(lines.readline(), secret, "0" * 64))
+                self.assertEqual(bool(lines.readline()), lets_in)
+                if lets_in:
+                    peer.sendall(TAKE)
+                    self.assertEqual(NO_JOB, lines.readline())
+        self.assertEqual((b"closed\n", 0), (host.communicate(timeout=2 * SECONDS)[0], host.returncode))
+
+    def test_no_challenge_comes_twice(self) -> None:
+        """Neither in one host, nor in two of one secret."""
+        file = self.write("secret", b"a secret in a file")
+        file.chmod(0o600)
+        seen = set()
+        for _ in range(2):
+            _, port = self.start("--secret", str(file), connections=9)
+            for _ in range(9):
+                with socket.create_connection(("127.0.0.1", port), timeout=SECONDS) as peer, peer.makefile("rb") as lines:
+                    seen.add(lines.readline())
+        self.assertEqual(len(seen), 18)
+
+    def test_a_proof_of_another_connection_proves_nothing(self) -> None:
+        host, port = self.start(connections=2)
+        assert host.stderr
+        secret = Path(host.stderr.readline().decode().removeprefix("bench61499: the secret is in ").strip()).read_bytes().strip()
+        with socket.create_connection(("127.0.0.1", port), timeout=SECONDS) as peer, peer.makefile("rb") as lines:
+            answer = proof(lines.readline(), secret, "0" * 64)
+            peer.sendall(answer)
+            self.assertIn(b'"proof"', lines.readline())
+        with socket.create_connection(("127.0.0.1", port), timeout=SECONDS) as peer, peer.makefile("rb") as lines:
+            lines.readline()
+            peer.sendall(answer)
+            self.assertEqual(b"", lines.readline())
+
+    def test_the_file_of_the_secret_goes_with_the_host(self) -> None:
+        host, port = self.start()
+        assert host.stderr
+        file = Path(os.environ["XDG_RUNTIME_DIR"], "bench61499", f"{port}.secret")
+        self.assertEqual(f"bench61499: the secret is in {file}\n".encode(), host.stderr.readline())
+        self.assertEqual(file.stat().st_mode & 0o777, 0o600)
+        with socket.create_connection(("127.0.0.1", port), timeout=SECONDS) as peer, peer.makefile("rb") as lines:
+            peer.sendall(proof(lines.readline(), file.read_bytes().strip(), "0" * 64))
+            self.assertIn(b'"proof"', lines.readline())
+        self.assertEqual(0, host.wait(timeout=2 * SECONDS))
+        self.assertFalse(file.exists())
+
+    def test_what_an_earlier_host_has_left(self) -> None:
+        """A file of another mode, and a link to one that is not to be written to, are replaced or removed."""
+        port = free_port()
+        file = Path(os.environ["XDG_RUNTIME_DIR"], "bench61499", f"{port}.secret")
+        file.parent.mkdir(mode=0o700, exist_ok=True)
+        other = self.write("other", b"not a secret")
+        for words, is_there in (((), True), (("--open",), False)):
+            file.unlink(missing_ok=True)
+            file.symlink_to(other)
+            host, _ = self.start(*words, port=port)
+            self.assertEqual((file.is_symlink(), file.exists()), (False, is_there))
+            host.kill()
+            host.wait()
+        self.assertEqual(other.read_bytes(), b"not a secret")
 
 
 if __name__ == "__main__":

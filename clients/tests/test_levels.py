@@ -26,7 +26,7 @@ class LevelsTest(TestCase):
         self.assertEqual(Levels(PATHS, True).frames_of("L.A.IN.X"), ["L.A", "L.A.IN"])
 
     def test_as_many_levels_as_can_be_read(self) -> None:
-        deep = [f"L.A{at}.B{by}.C{it}" for at in range(4) for by in range(20) for it in range(2)]
+        deep = [f"L.A{at}.B{by}.C{it}" for at in range(4) for by in range(MOST_SHOWN // 4) for it in range(2)]
         self.assertEqual(Levels(deep, True).open, frozenset(f"L.A{at}" for at in range(4)))
         wide = [f"L.A{at}.B" for at in range(MOST_SHOWN + 1)]
         self.assertEqual(Levels(wide, True).open, frozenset())

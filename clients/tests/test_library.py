@@ -10,9 +10,10 @@ from support import GREETING, InFolder, answering, free_port, hosting, serving, 
 
 from bench61499 import (
     CHANGES_LIMIT, LINE_LIMIT, TEXT_LIMIT, BadReply, Blocked, Block, Border, Change, ConnectionEnded, Fault, Faulty, Flat, HistoryFull, Link,
-    Misplaced, NoAnswer, NoSeat, NoSuchKey, NoSuchUnit, NotLetIn, NoWorkbench, Places, Plan, Put, Recursive, Refused, Remove, RequestTooLong, Resource,
-    Session, StaleBase, Stopped, TooLarge, batches, pauses,
+    Misplaced, NoAnswer, NoSeat, NoSecret, NoSuchKey, NoSuchUnit, NotLetIn, NotYourHost, NoWorkbench, Places, Plan, Put, Recursive, Refused, Remove, RequestTooLong,
+    Resource, Session, StaleBase, Stopped, TooLarge, batches, pauses,
 )
+from bench61499.secret import secret_file
 
 A = "FUNCTION_BLOCK A EVENT_INPUT E WITH X; END_EVENT END_FUNCTION_BLOCK"
 
@@ -307,27 +308,40 @@ class HostTest(InFolder):
     """Sessions of a host, which come and go."""
 
     def test_a_secret(self):
-        secret = self.write("secret", "open sesame\nthis is not it\n")
+        secret = self.write("secret", "open sesame, please\nthis is not it\n")
+        secret.chmod(0o600)
         with hosting("--secret", str(secret)) as port:
-            with Session.connect("127.0.0.1", port, secret="open sesame") as session:
+            with Session.connect("127.0.0.1", port, secret="open sesame, please") as session:
                 self.assertEqual(session.commit([Put("A", 0, A)]), 1)
-            for wrong, why in ("sesame", "the secret may be wrong"), (None, "it may require a secret"):
-                with self.assertRaisesRegex(NotLetIn, f"the workbench at 127.0.0.1:{port} closed the connection before it answered: {why}"):
-                    Session.connect("127.0.0.1", port, secret=wrong)
+            with self.assertRaisesRegex(NotLetIn, f"the workbench at 127.0.0.1:{port} closed the connection before it answered: the secret may be wrong$"):
+                Session.connect("127.0.0.1", port, secret="sesame, open, please")
+            self.assertRaisesRegex(NoSecret, "^the host lets in only who has its secret, and there is none in .*: name its file with --secret$", Session.connect, "127.0.0.1", port)
+
+    def test_a_secret_that_the_host_makes(self):
+        with hosting() as port:
+            file = secret_file(port)
+            self.assertEqual((file.stat().st_mode & 0o777, file.parent.stat().st_mode & 0o777), (0o600, 0o700))
+            self.assertRegex(file.read_text(), r"\A[0-9a-f]{64}\n\Z")
+            with Session.connect("127.0.0.1", port) as session:
+                self.assertEqual(session.commit([Put("A", 0, A)]), 1)
+            for stranger in "", "another secret, of 27 bytes":
+                self.assertRaises((NoSecret, NotLetIn), Session.connect, "127.0.0.1", port, secret=stranger)
 
     def test_a_secret_that_nobody_asks_for(self):
-        with hosting() as port, Session.connect("127.0.0.1", port, secret="open sesame") as session:
-            self.assertEqual(session.commit([Put("A", 0, A)]), 1)
-            self.assertEqual(session.revision("A"), 1)
+        with hosting("--open") as port:
+            self.assertFalse(secret_file(port).exists())
+            with self.assertRaisesRegex(NotYourHost, "^the program at 127.0.0.1:[0-9]+ sends no challenge: it is busy, it is not your host, or it was started without a secret$"):
+                Session.connect("127.0.0.1", port, secret="open sesame, please", timeout=0.5)
+            with Session.connect("127.0.0.1", port) as session:
+                self.assertEqual(session.commit([Put("A", 0, A)]), 1)
 
     def test_all_sessions_are_in_use(self):
-        with hosting("--sessions", "1") as port:
-            with Session.connect("127.0.0.1", port):
-                for secret in (None, "open sesame"):
-                    with self.assertRaisesRegex(NoSeat, "^all sessions of the workbench are in use$"):
-                        Session.connect("127.0.0.1", port, secret=secret)
-            with self.once_free(port) as session:
-                self.assertEqual(session.revision("A"), 0)
+        for words in (), ("--open",):
+            with hosting("--sessions", "1", *words) as port:
+                with Session.connect("127.0.0.1", port):
+                    self.assertRaisesRegex(NoSeat, "^all sessions of the workbench are in use$", Session.connect, "127.0.0.1", port)
+                with self.once_free(port) as session:
+                    self.assertEqual(session.revision("A"), 0)
 
     def once_free(self, port: int) -> Session:
         """The seat is free a moment after its session has ended."""

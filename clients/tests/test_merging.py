@@ -9,6 +9,8 @@ from support import TestCase
 
 from bench61499 import TEXT_LIMIT
 from bench61499.language.merging import Merged, is_marked, merged
+from bench61499.language.syntax import MARKED, explained
+from bench61499.language.tokens import tokens
 
 BASE = "one\ntwo\nthree\nfour\nfive\n"
 
@@ -70,6 +72,10 @@ class MergingTest(TestCase):
         self.assertTrue(is_marked("<<<<<<< a\r\nx\r\n=======\r\ny\r\n>>>>>>> b\r\n"))
         for text in ("", BASE, "(* <<<<<<< a *)\n=======\n>>>>>>> b\n", "=======\n", "<<<<<<< a\n=======\n"):
             self.assertFalse(is_marked(text))
+
+    def test_marked_lines_are_explained(self) -> None:
+        text = merged("A", "B", "C").text
+        self.assertEqual(explained(text, list(tokens(text)), 0), MARKED)
 
 
 if __name__ == "__main__":

@@ -2,6 +2,7 @@
 from __future__ import annotations
 
 import hashlib
+import json
 import os
 import re
 import shlex
@@ -239,7 +240,7 @@ class WordsTest(InFolder):
     def test_the_man_page_has_all_options_and_their_defaults(self) -> None:
         page = (PACKAGING / "bench61499.1").read_text().replace("\\-", "-")
         parts = re.findall(r"^\.SS (\w+)\n(.*?)(?=^\.S[SH] )", page, re.M | re.S)
-        described = {name: re.findall(r"^\.BI (--\w+) .*\n(?:(?!\.TP).*\n)*?.*?(?:default is (\d+)|(?=\.TP|\.S|\Z))", part, re.M) for name, part in parts}
+        described = {name: re.findall(r"^\.BI? (--\w+).*\n(?:(?!\.TP).*\n)*?.*?(?:default is (\d+)|(?=\.TP|\.S|\Z))", part, re.M) for name, part in parts}
         expected = {name: {option: default for option, default in its.items() if option != "--help"} for name, its in commands().items()}
         self.assertEqual({name: dict(its) for name, its in described.items()}, expected)
         synopsis = page[page.index(".SH SYNOPSIS") : page.index(".SH DESCRIPTION")]
@@ -272,6 +273,12 @@ class WordsTest(InFolder):
         script = 'source bench61499.fish; set -l dashes (test -n "$argv[2]"; and echo " --"); complete -C "bench61499 $argv[2]$dashes" | string replace -r "\\t.*" ""'
         self.completed("fish", script)
 
+    def secret(self) -> Path:
+        """A file with a secret."""
+        secret = self.write("secret", f"{'a word' * 4}\n")
+        secret.chmod(0o600)
+        return secret
+
     def listens(self, words: list[str]) -> None:
         """Starts the program with these words, at any free port: it has to listen."""
         words = ["0" if before == "--port" else word for before, word in zip(["", *words], words)]
@@ -282,9 +289,7 @@ class WordsTest(InFolder):
 
     def test_the_unit_starts_a_server(self) -> None:
         unit = (PACKAGING / "bench61499.service").read_text()
-        secret = self.write("secret", f"{'a word' * 4}\n")
-        secret.chmod(0o600)
-        started = re.search(r"^ExecStart=(.*)", unit, re.M)[1].replace("${CREDENTIALS_DIRECTORY}/secret", str(secret))
+        started = re.search(r"^ExecStart=(.*)", unit, re.M)[1].replace("${CREDENTIALS_DIRECTORY}/secret", str(self.secret()))
         self.assertIn("\nLoadCredential=secret:", unit)
         program, *words = shlex.split(started)
         self.assertEqual((program, words.pop()), ("/usr/local/bin/bench61499", "$OPTIONS"))
@@ -294,8 +299,9 @@ class WordsTest(InFolder):
 
     def test_the_container_starts_a_server(self) -> None:
         lines = (PACKAGING / "Dockerfile").read_text()
-        words = re.search(r"^CMD (.*)", lines, re.M)[1]
-        self.listens([it.strip('"') for it in words.strip("[]").split(", ")])
+        words = json.loads(re.search(r"^CMD (.*)", lines, re.M)[1])
+        self.assertEqual(words[-2:], ["--secret", "/secret"])
+        self.listens([*words[:-1], str(self.secret())])
         self.assertIn("\nSTOPSIGNAL SIGKILL\n", lines)
 
     @unittest.skipUnless(shutil.which("systemd-analyze"), "systemd is not installed")

@@ -2,9 +2,9 @@
 import random
 import unittest
 from collections import Counter
-from pathlib import Path
 
 from generated import Library, at_tokens, checked, faults_of
+from plants import file_of, plant_of
 from support import workbench
 
 from bench61499 import Session
@@ -26,7 +26,7 @@ class FaultsTest(unittest.TestCase):
         with Session.script(workbench()) as session:
             while spaces.total() < RENAMES:
                 library = chance.choice(libraries)
-                plant = plant_of(library)
+                plant = plant_of(library.texts)
                 found = some_name(chance, plant)
                 try:
                     edit = renamed(plant, found, NEW) if found else None
@@ -37,7 +37,7 @@ class FaultsTest(unittest.TestCase):
                     self.check(session, library, found, edit["changes"])
                     spaces[found.key.space] += 1
         self.assertGreaterEqual(min(spaces.values()), 3, spaces)
-        self.assertEqual(len(spaces), 9, spaces)
+        self.assertEqual(len(spaces), 10, spaces)
 
     def check(self, session: Session, library: Library, found: Found, changes: dict) -> None:
         new = {name: edited(text, changes.get(file_of(name).as_uri(), [])) for name, text in library.texts.items()}
@@ -46,18 +46,6 @@ class FaultsTest(unittest.TestCase):
         for name, text in library.texts.items():
             expected = at_tokens(text, library.faults[name])
             self.assertEqual(at_tokens(new[name], faults[names.get(name, name)]), expected, (found, text, new[name], library.texts))
-
-
-def file_of(name: str) -> Path:
-    return Path(f"/plant/{name}.fb")
-
-
-def plant_of(library: Library) -> Plant:
-    plant = Plant()
-    for name, text in library.texts.items():
-        plant.put(file_of(name), text)
-    plant.refresh()
-    return plant
 
 
 def some_name(chance: random.Random, plant: Plant) -> Found | None:

@@ -11,8 +11,9 @@ from pathlib import Path
 from editing import Editor, LspTest
 from generated import at_tokens, faults_of, faulty_libraries
 from structures import judges_fields, reads_structures, structured_libraries
+from plants import file_of, plant_of
 from support import workbench
-from test_rename import file_of, some_name
+from test_rename import some_name
 
 from bench61499 import Fault, Places, Session
 from bench61499.board.state import Row, Source
@@ -65,14 +66,6 @@ FUNCTION_BLOCK PUMP
 END_FUNCTION_BLOCK
 """,
 }
-
-
-def plant_of(texts: dict[str, str]) -> Plant:
-    plant = Plant()
-    for name, text in texts.items():
-        plant.put(file_of(name), text)
-    plant.refresh()
-    return plant
 
 
 def text_of(plant: Plant, name: str) -> Text:
@@ -621,7 +614,7 @@ class BoardTest(unittest.TestCase):
         return Row(name, 1, source=Source(file_of(name), TEXTS[name]))
 
     def test_a_structure_in_the_list(self):
-        self.assertEqual(self.row("TANK").told[:2], ["TANK", "TYPE"])
+        self.assertEqual(self.row("TANK").told[:3], ["TANK", "TANK", "TYPE"])
 
     def test_what_a_change_reaches(self):
         self.assertEqual(Mentions().reached(["BOUNDS"], TEXTS), {"BOUNDS", "TANK", "METER", "PUMP"})

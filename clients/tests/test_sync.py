@@ -206,6 +206,15 @@ class SavedTest(InFolder):
         self.write("b.fb", A)
         self.assertEqual(self.names(A=FileRevision("a.fb", 1, A)), {"A": "b.fb"})
 
+    def test_nothing_is_wrong_while_a_file_is_being_moved(self) -> None:
+        file = self.write("a.fb", A)
+        self.assertEqual(self.problems(A=FileRevision("a.fb", 1, A)), set())
+        file.rename(self.folder / "b.fb")
+        self.saved.look()
+        self.saved.look()
+        self.assertTrue(self.saved.has_file("a.fb") and self.saved.has_file("b.fb"))
+        self.assertEqual(self.saved.units({"A": FileRevision("a.fb", 1, A)}).problems, {})
+
     def test_what_is_no_text_of_a_unit_is_held(self) -> None:
         for content in (b"\xff", b"x" * (TEXT_LIMIT + 1)):
             self.write("a.fb", content)
@@ -531,6 +540,19 @@ class ConflictTest(KeeperTest):
         other = self.keeping("other")
         self.settle(other)
         self.assertEqual((other.texts(), other.file("A.fb.theirs").read_text()), ({"A.fb": BELOW}, ABOVE))
+
+    def test_both_save_a_new_unit_at_the_same_time(self) -> None:
+        """What comes waits for the file that is there, and not read yet."""
+        one = self.keeping("one")
+        one.settle()
+        for file, unit in (("B.fb", "B"), ("other.fb", "C")):
+            one.file(file).write_text(TEXT.format(name=unit))
+            self.session.commit([Put(unit, 0, f"// other\n{TEXT.format(name=unit)}")])
+            until(lambda: one.team.names() == {it.unit for it in self.session.units().units})
+            while not one.file(f"{file}.theirs").exists():
+                one.keeper.step()
+                one.keeper.look()
+        self.assertEqual(one.texts(), {"B.fb": TEXT.format(name="B"), "other.fb": TEXT.format(name="C")})
 
     def test_a_file_beside_that_was_there_before_is_kept(self) -> None:
         one, other = self.both()

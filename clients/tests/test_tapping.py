@@ -17,7 +17,7 @@ class TapTest(TestCase):
     def setUp(self) -> None:
         stack = ExitStack()
         self.addCleanup(stack.close)
-        self.host = stack.enter_context(hosting())
+        self.host = stack.enter_context(hosting("--open"))
         self.tap = stack.enter_context(Tap(self.host))
         self.session = stack.enter_context(Session.connect("127.0.0.1", self.tap.port))
         self.other = stack.enter_context(Session.connect("127.0.0.1", self.host))

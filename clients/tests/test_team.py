@@ -212,7 +212,7 @@ class ConnectionTest(TeamTest):
 
     def test_a_secret(self) -> None:
         file = self.write("a.fb", GOOD)
-        secret, wrong = self.write("secret", "open sesame\nmore\n"), self.write("wrong", "sesame\n")
+        secret, wrong = self.write("secret", "open sesame, please\nmore\n"), self.write("wrong", "sesame, open, please\n")
         for it in (secret, wrong):
             it.chmod(0o600)
         with hosting("--secret", str(secret)) as port:

@@ -56,7 +56,7 @@ class Cid:
 class DayTest(InFolder):
     def setUp(self) -> None:
         super().setUp()
-        self.host = Host()
+        self.host = Host("--open")
         self.addCleanup(lambda: self.host.end())
         self.tap = self.enterContext(Tap(self.host.port))
         self.ann, self.ben = (Syncing(self.folder / name, self.tap.port) for name in ("ann", "ben"))

@@ -16,9 +16,9 @@ from support import CLIENTS, workbench
 KIT = re.compile(r"rattle-kit-\w+")
 
 
-def ran(*words: str) -> tuple[int, str, str]:
+def ran(*words: str, surroundings: dict[str, str] | None = None) -> tuple[int, str, str]:
     """The status of the program, and what it printed."""
-    done = subprocess.run([workbench(), *words], stdin=subprocess.DEVNULL, capture_output=True, text=True, timeout=60)
+    done = subprocess.run([workbench(), *words], stdin=subprocess.DEVNULL, env=surroundings, capture_output=True, text=True, timeout=60)
     return done.returncode, done.stdout, done.stderr
 
 
@@ -61,9 +61,28 @@ class WordsTest(unittest.TestCase):
     def test_a_file_without_a_secret_admits_nobody(self) -> None:
         with tempfile.TemporaryDirectory() as folder:
             path = Path(folder, "secret")
-            for content, reason in ((b"", "is empty"), (b"\nsecret\n", "is empty"), (b"s" * 4097, "has more than 4096 bytes")):
+            for content, reason in ((b"", "is empty"), (b"\nsecret\n", "is empty"), (b"s" * 15, "has fewer than 16 bytes"), (b"s" * 4097, "has more than 4096 bytes")):
                 path.write_bytes(content)
+                path.chmod(0o600)
                 self.assert_no_secret(path, f"no secret in {path}: its first line {reason}")
+
+    def test_a_secret_that_others_can_read_admits_nobody(self) -> None:
+        with tempfile.NamedTemporaryFile() as secret:
+            secret.write(b"s" * 16)
+            secret.flush()
+            os.chmod(secret.name, 0o644)
+            self.assert_no_secret(Path(secret.name), f"other users of this machine can read or write the secret in {secret.name}; chmod 600 keeps it from them")
+
+    def test_a_secret_and_none(self) -> None:
+        self.assertEqual(ran("host", "--port", "0", "--open", "--secret", "s"), (2, "", "bench61499: --open and --secret exclude each other\n"))
+
+    def test_no_folder_for_a_secret(self) -> None:
+        lack = "bench61499: no folder for a secret: neither XDG_RUNTIME_DIR nor HOME is set; name a file with --secret, or give --open\n"
+        self.assertEqual(ran("host", "--port", "0", surroundings={}), (1, "", lack))
+        with tempfile.NamedTemporaryFile() as file:
+            status, out, errors = ran("host", "--port", "0", surroundings={"HOME": file.name})
+        self.assertEqual((status, out), (1, ""))
+        self.assertRegex(errors, f"^bench61499: cannot put a secret into {file.name}/.cache/bench61499/[0-9]+.secret: Not a directory ")
 
     def assert_no_secret(self, path: Path, message: str) -> None:
         told = (1, "", f"bench61499: {message}\n")

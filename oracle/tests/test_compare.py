@@ -39,8 +39,7 @@ class SmallestTest(unittest.TestCase):
 
     def test_changes_that_are_not_needed_are_left_out(self):
         parts = [b'{"op":"take"}', b'{"op":"commit","changes":[1,2,3,4]}', b"[]", b'{"op":"commit","changes":5}', b"x"]
-        self.assertEqual(parts[:1] + [b'{"changes": [3], "op": "commit"}'] + parts[2:],
-                         compare.with_fewer_changes(parts, lambda some: b"3" in some[1]))
+        self.assertEqual(parts[:1] + [b'{"changes": [3], "op": "commit"}'] + parts[2:], compare.with_fewer_changes(parts, lambda some: b"3" in some[1]))
 
 
 class ComparisonTest(unittest.TestCase):
@@ -94,10 +93,8 @@ class ConversationsTest(unittest.TestCase):
         self.assertNotEqual(one.input, other.input)
 
     def test_a_seed_gives_one_conversation_in_each_process(self):
-        words = [sys.executable, "-c", "import random, conversations as c\n"
-                 "for n in range(15): print(c.Conversation(random.Random(str(n))).input)"]
-        inputs = {subprocess.run(words, cwd=ORACLE, env={**os.environ, "PYTHONHASHSEED": seed}, capture_output=True, check=True).stdout
-                  for seed in "123"}
+        words = [sys.executable, "-c", "import random, conversations as c\n" "for n in range(15): print(c.Conversation(random.Random(str(n))).input)"]
+        inputs = {subprocess.run(words, cwd=ORACLE, env={**os.environ, "PYTHONHASHSEED": seed}, capture_output=True, check=True).stdout for seed in "123"}
         self.assertEqual(1, len(inputs))
 
     def test_conversations_reach_nearly_all_that_is_named(self):

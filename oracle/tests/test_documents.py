@@ -3,43 +3,11 @@ import json
 import re
 import unittest
 
-from support import DOCUMENTS, Talk, block
+from support import DOCUMENTS, ORACLE, Talk, block
 
 import oracle
 import seen
 
-ST = " ALGORITHM P IN ST: %s END_ALGORITHM"
-AD = "ADAPTER AD EVENT_OUTPUT O; END_EVENT END_ADAPTER"
-FB = block("B", "EVENT_INPUT I; END_EVENT EVENT_OUTPUT O; END_EVENT VAR_INPUT X:INT; Y:INT; END_VAR VAR_OUTPUT Z:BOOL; W:INT; END_VAR "
-           "PLUGS P:AD; END_PLUGS SOCKETS S:AD; END_SOCKETS")
-# A unit U with the fault; AD and B are there too.
-FAULTS = {
-    "SYNTAX": "FUNCTION_BLOCK U",
-    "NAME_DIFFERS": block("V"),
-    "DUPLICATE": block("U", "VAR X:INT; X:INT; END_VAR"),
-    "MIXED_KIND": block("U", "EC_STATES END_STATES FBS END_FBS"),
-    "UNKNOWN_TYPE": block("U", "FBS F:NONE; END_FBS"),
-    "WRONG_KIND": block("U", "FBS F:AD; END_FBS"),
-    "WITH_UNKNOWN": block("U", "EVENT_INPUT I WITH X; END_EVENT"),
-    "STATE_UNKNOWN": block("U", "EC_TRANSITIONS A TO A := 1; END_TRANSITIONS"),
-    "EVENT_UNKNOWN": block("U", "EC_STATES A: -> O; END_STATES"),
-    "ALGORITHM_UNKNOWN": block("U", "EC_STATES A: P; END_STATES"),
-    "VARIABLE_UNKNOWN": block("U", ST % "X := 1;"),
-    "CLASS": block("U", "VAR X:BOOL; END_VAR" + ST % "X := 2;"),
-    "PORT_UNKNOWN": block("U", "FBS F:B; END_FBS EVENT_CONNECTIONS F.O TO F.N; END_CONNECTIONS"),
-    "PORT_SIDE": block("U", "FBS F:B; END_FBS EVENT_CONNECTIONS F.O TO F.O; END_CONNECTIONS"),
-    "DATA_TYPE": block("U", "FBS F:B; END_FBS DATA_CONNECTIONS F.Z TO F.X; END_CONNECTIONS"),
-    "SECOND_SOURCE": block("U", "FBS F:B; END_FBS DATA_CONNECTIONS F.W TO F.X; F.W TO F.X; END_CONNECTIONS"),
-    "SECOND_ADAPTER": block("U", "FBS F:B; G:B; END_FBS ADAPTER_CONNECTIONS F.P TO F.S; F.P TO G.S; END_CONNECTIONS"),
-    "PASS_THROUGH": "SUBAPPLICATION U EVENT_INPUT I; END_EVENT EVENT_OUTPUT O; END_EVENT EVENT_CONNECTIONS I TO O; END_CONNECTIONS "
-                    "END_SUBAPPLICATION",
-    "PARAMETER_UNKNOWN": block("U", "FBS F:B(N:=1); END_FBS"),
-    "LITERAL": block("U", "VAR X:INT:=TRUE; END_VAR"),
-    "MAPPED_TWICE": "SYSTEM U DEVICE D:T RESOURCE R:T END_RESOURCE END_DEVICE MAPPINGS A ON D.R; A ON D.R; END_MAPPINGS END_SYSTEM",
-    "NO_SUCH_RESOURCE": "SYSTEM U MAPPINGS A ON D.R; END_MAPPINGS END_SYSTEM",
-    "MEMBER_UNKNOWN": block("U", "VAR X:INT; END_VAR" + ST % "X.F := 1;"),
-    "STRUCT_RECURSIVE": "TYPE U : STRUCT F:U; END_STRUCT END_TYPE",
-}
 A = {"put": "A", "base": 0, "text": ""}
 TAKE = {"op": "take"}
 
@@ -79,11 +47,21 @@ class FaultsTest(unittest.TestCase):
         rows = re.findall(r"^\| (\d+) \| `([A-Z_]+)` \| [^`\[]", (DOCUMENTS / "LANGUAGE.md").read_text(), re.M)
         self.assertEqual([(str(at), code) for at, code in enumerate(oracle.CODES)][1:], rows)
 
-    def test_each_code_is_given(self):
-        self.assertEqual(set(oracle.CODES[1:]), set(FAULTS))
-        for code, text in FAULTS.items():
-            found = oracle.Library({"AD": AD, "B": FB, "U": text}).faults("U")
-            self.assertEqual({code}, {oracle.CODES[it] for it, _, _ in found})
+    def test_each_code_is_in_an_example(self):
+        given = re.findall(r"\b([A-Z_]+) \d+ \d+(?:, |$)", (ORACLE / "tests/units.examples").read_text(), re.M)
+        self.assertEqual(set(oracle.CODES[1:]), set(given))
+
+
+class InstancesTest(unittest.TestCase):
+    def test_a_net_has_4096_instances_at_most(self):
+        subapplication = "SUBAPPLICATION %s FBS %s END_FBS SUBAPPS %s END_SUBAPPS END_SUBAPPLICATION"
+        texts = {"B": block("B"), "D0": subapplication % ("D0", "".join("F%d:B;" % i for i in range(61)), "")}
+        for i in range(1, 7):
+            texts["D%d" % i] = subapplication % ("D%d" % i, "", "F:D%d; G:D%d;" % (i - 1, i - 1))
+        size = 64 * 61 + 2 * (2**6 - 1)
+        for extra, form in ((4096 - size - 1, "blocks"), (4096 - size, "too_large")):
+            texts["U"] = subapplication % ("U", "".join("H%d:B;" % i for i in range(extra)), "D:D6;")
+            self.assertEqual(form, oracle.Library(texts).net("U")[0])
 
 
 class RefusalsTest(unittest.TestCase):

@@ -35,40 +35,12 @@ class RequestsTest(unittest.TestCase):
         for x in (b"-0", b"1e-999", b'"\\ud83d\\ude00"', b"[" * 126 + b"]" * 126, b'"\x7f"'):
             self.assertEqual(NOTHING, self.reply(b'{"op":"take","x":%s}' % x), x[:20])
 
-    def test_of_a_member_that_occurs_twice_the_last_counts(self):
-        self.assertEqual(NOTHING, self.reply(b'{"op":7,"\\u006fp":"take","more":{}}'))
-        self.assertEqual(b'{"refused":"BadName"}', self.reply(b'{"op":"ask","kind":1,"kind":"net","unit":"A","unit":"1"}'))
-
-    def test_whole_numbers_are_written_by_digits_and_fit_64_bits(self):
-        for n in (b"0", b"18446744073709551615"):
-            self.assertEqual(b'{"refused":"NoSuchJob"}', self.reply(b'{"op":"deliver","job":%s}' % n))
-        for n in (b"18446744073709551616", b"-1", b"-0", b"1.0", b"1e0", b"true", b'"1"', b"null"):
-            self.assertEqual(BAD, self.reply(b'{"op":"deliver","job":%s}' % n))
-
-    def test_ranges_and_words(self):
-        for members in ({"op": "work", "turns": 0}, {"op": "work", "turns": 1001}, {"op": "checkpoint", "units": 16385, "history": 1},
-                        {"op": "checkpoint", "units": 1, "history": 10_000_001}, {"op": "ask", "kind": "Net", "unit": "A"}, {"op": "ask", "kind": "net"}):
-            self.assertEqual({"refused": "BadRequest"}, Talk().say(**members))
-        self.assertEqual({"accepted": 0}, Talk().say("work", turns=1000))
-
-    def test_changes_put_or_remove(self):
-        good, talk = {"put": "A", "base": 0, "text": ""}, Talk()
-        for wrong in ({**good, "remove": None}, {"base": 0, "text": ""}, {**good, "put": None}, {"put": "A", "base": 0}, {**good, "text": 1}, 5):
-            self.assertEqual({"refused": "BadRequest"}, talk.commit({**good, "put": "1"}, wrong))
-        self.assertEqual({"refused": "NoSuchUnit", "unit": "A"}, talk.commit({"remove": "a", "base": 0, "text": 5}))
-
     def test_names_and_texts_are_looked_at_in_their_order(self):
         long, bad = {"put": "A", "base": 0, "text": "\u20ac" * 21846}, {"put": "1", "base": 0, "text": ""}
         self.assertEqual({"refused": "TextTooLong"}, Talk().commit(long, bad))
         self.assertEqual({"refused": "BadName"}, Talk().commit(bad, long))
         self.assertEqual({"refused": "BadName"}, Talk().commit({**long, "put": "1"}))
         self.assertEqual({"commit": 1}, Talk().commit({**long, "text": "x" * 65536}))
-
-    def test_names_of_units(self):
-        for name in ("IF", "type", "_", "x" * 64):
-            self.assertEqual({"refused": "NoSuchKey"}, Talk().say("ask", kind="net", unit=name))
-        for name in ("", "1", "A B", "A\n", "\u00c4", "\u212a", "x" * 65):
-            self.assertEqual({"refused": "BadName"}, Talk().say("ask", kind="net", unit=name))
 
 
 class RunsTest(unittest.TestCase):

@@ -3,6 +3,7 @@ _bench61499() {
   local word=${COMP_WORDS[COMP_CWORD]} before=${COMP_WORDS[COMP_CWORD-1]} words
   case $before in
     --secret) mapfile -t COMPREPLY < <(compgen -f -- "$word"); return ;;
+    --open) ;;
     --*) COMPREPLY=(); return ;;
   esac
   if [ "$COMP_CWORD" -eq 1 ]; then
@@ -11,7 +12,7 @@ _bench61499() {
     case ${COMP_WORDS[1]} in
       script) words='--units --history --help' ;;
       serve) words='--port --workers --sessions --units --history --help' ;;
-      host) words='--port --workers --sessions --units --history --secret --idle --connections --help' ;;
+      host) words='--port --workers --sessions --units --history --secret --open --idle --connections --help' ;;
       help) words='script serve host' ;;
       *) words='' ;;
     esac

@@ -335,7 +335,7 @@ class Mirror:
         return session
 
     def _session_of(self, workbench: str) -> tuple[Session, int]:
-        """A new session for reads and commits, of this workbench and no other, and its caller. If it is not the one that is known, all begins anew with its units."""
+        """A new session for reads and commits, of this workbench and no other, and its caller. If it is not the one that is known, all begins again with its units."""
         with ExitStack() as opened:
             session = opened.enter_context(self._new_session())
             status = session.status()

@@ -13,6 +13,8 @@ from os import PathLike, fspath
 from random import uniform
 from typing import Any, BinaryIO, Literal, NamedTuple, Self, TypeVar, cast
 
+from bench61499.secret import UnfitSecret, exchange_for, secret_at, secret_file
+
 CHANGES_LIMIT = 16
 """Changes in one commit."""
 LINE_LIMIT = 1_048_576
@@ -75,8 +77,16 @@ class ConnectionEnded(WorkbenchError):
     """The workbench ended, or hung up, before its reply was there. The session can't be used any more."""
 
 
+class NoSecret(NoWorkbench):
+    """A `host` has a secret, and the client has none, or none that may be used."""
+
+
+class NotYourHost(NoWorkbench):
+    """Who listens at the address has not proved that it has the secret. No request was sent to it."""
+
+
 class NotLetIn(ConnectionEnded):
-    """The connection was closed before the first reply. A `host` does that if the secret is wrong or missing, or if too many others are connecting."""
+    """The connection was closed before the first reply. A `host` does that if the secret is wrong, or if too many others are connecting."""
 
 
 class NoAnswer(WorkbenchError):
@@ -394,7 +404,7 @@ Event = Commit | Result
 
 @dataclass(frozen=True)
 class Watched:
-    """What has happened up to the recorded call `at`, in order; a watch goes on from there.
+    """What has happened up to the recorded call `at`, in order; a watch continues from there.
 
     If it is `missed`, the host no longer has all that was asked for, or never had as many calls: what is there has to be listed again.
     """
@@ -601,6 +611,13 @@ def _line(request: dict[str, Any]) -> bytes:
     return _ENCODER.encode(request).encode()
 
 
+def _found_secret(port: int) -> str | None:
+    try:
+        return secret_at(port)
+    except UnfitSecret as error:
+        raise NoSecret(str(error)) from error
+
+
 # Sessions
 
 
@@ -648,16 +665,16 @@ class _Connection:
     """A connection to a server."""
 
     def __init__(self, host: str, port: int, timeout: float):
-        self._address = f"{host}:{port}"
+        self.address = f"{host}:{port}"
         self._timeout = self._patience = timeout
         try:
             self._socket = socket.create_connection((_of_this_machine(host), port), timeout)
         except ConnectionRefusedError as error:
-            raise NoWorkbench(f"no workbench at {self._address}: connection refused, no server runs there ({_USED_UP})") from error
+            raise NoWorkbench(f"no workbench at {self.address}: connection refused, no server runs there ({_USED_UP})") from error
         except OSError as error:
-            raise NoWorkbench(f"no workbench at {self._address}: {error.strerror or error}") from error
+            raise NoWorkbench(f"no workbench at {self.address}: {error.strerror or error}") from error
         except ValueError as error:
-            raise NoWorkbench(f"no workbench at {self._address}: there is no such host") from error
+            raise NoWorkbench(f"no workbench at {self.address}: there is no such host") from error
         self._socket.setsockopt(socket.IPPROTO_TCP, socket.TCP_NODELAY, 1)
         self._received = bytearray()
         self._using = threading.Lock()
@@ -684,7 +701,7 @@ class _Connection:
         while (end := self._received.find(b"\n", searched)) < 0:
             searched = len(self._received)
             if searched > REPLY_LIMIT:
-                raise ConnectionEnded(f"the workbench at {self._address} sent a reply of more than {REPLY_LIMIT:,} bytes")
+                raise ConnectionEnded(f"the workbench at {self.address} sent a reply of more than {REPLY_LIMIT:,} bytes")
             self._receive_some(begin + self._patience + searched / _SLOWEST)
         line = bytes(self._received[: end + 1])
         del self._received[: end + 1]
@@ -700,16 +717,16 @@ class _Connection:
                 self._socket.setsockopt(socket.IPPROTO_TCP, _ACKNOWLEDGE, 1)
             piece = self._socket.recv(_PIECE)
         if not piece:
-            raise ConnectionEnded(f"the workbench at {self._address} closed the connection before it answered")
+            raise ConnectionEnded(f"the workbench at {self.address} closed the connection before it answered")
         self._received += piece
 
     def _try(self, act: Callable[[], Value]) -> Value:
         try:
             return act()
         except TimeoutError as error:
-            raise NoAnswer(f"no answer from {self._address} within {self._patience:g} seconds: it is busy, or all sessions of a `serve` are used up") from error
+            raise NoAnswer(f"no answer from {self.address} within {self._patience:g} seconds: it is busy, or all sessions of a `serve` are used up") from error
         except (OSError, ValueError) as error:  # A `ValueError` where another thread has ended the session.
-            raise ConnectionEnded(f"the connection to {self._address} ended: {getattr(error, 'strerror', None) or error}") from error
+            raise ConnectionEnded(f"the connection to {self.address} ended: {getattr(error, 'strerror', None) or error}") from error
 
     def close(self) -> None:
         try:
@@ -718,6 +735,26 @@ class _Connection:
             pass  # The other side has hung up.
         with self._using:  # Before that its number could be given to another connection, of which the other thread would read.
             self._socket.close()
+
+
+def _prove(connection: _Connection, secret: str, source: str) -> None:
+    """Proves to a host that the client has the secret, and makes sure that the host has it too. `source` says where the secret was found."""
+    silent, why = f"the program at {connection.address} sends no challenge: ", f"it is not your host, or it was started without a secret{source}"
+    try:
+        exchange = exchange_for(secret, connection.receive())
+    except NoAnswer as error:
+        raise NotYourHost(f"{silent}it is busy, {why}") from error
+    except ConnectionEnded as error:
+        raise NotYourHost(silent + why) from error
+    if not exchange:
+        raise NotYourHost(silent + why)
+    try:
+        connection.send(exchange.answer)
+        is_proved = exchange.is_proof(connection.receive())
+    except ConnectionEnded as error:
+        raise NotLetIn(f"{error}: the secret may be wrong") from error
+    if not is_proved:
+        raise NotYourHost(f"the program at {connection.address} does not have the secret: it is not your host")
 
 
 class Session:
@@ -746,44 +783,46 @@ class Session:
 
     @classmethod
     def connect(cls, host: str, port: int, timeout: float = 60, secret: str | None = None) -> Self:
-        """Connects to a workbench that serves. No reply may take longer than `timeout` seconds, and one more for each 64 KiB of it. `secret` is the first line of the file that a `host` was given.
+        """Connects to a workbench that serves. No reply may take longer than `timeout` seconds, and one more for each 64 KiB of it.
 
-        `localhost` and an empty `host` are 127.0.0.1. Raises `NoWorkbench` if nobody listens, `NoAnswer` if nobody answers within five seconds, `NoSeat` if all sessions are in use, `NotLetIn` if
-        the connection is closed before the first reply, and `BadReply` if it is no workbench that answers. A `serve` that has had all its
-        sessions does one of the first two.
+        `secret` is that of a `host`: None for the one that a host of this user has made for the port, if there is one, and empty for none. `localhost` and an empty `host`
+        are 127.0.0.1. Raises `NoWorkbench` if nobody listens, `NoSecret` if the host has a secret and there is none here, `NotYourHost` if who listens does not prove within
+        five seconds that it has the secret, `NoAnswer` if nobody answers in that time, `NoSeat` if all sessions are in use, `NotLetIn` if the secret is wrong or the connection
+        is closed before the first reply, and `BadReply` if it is no workbench that answers.
         """
+        is_here = _of_this_machine(host) == "127.0.0.1"
+        found = _found_secret(port) if secret is None and is_here else None
         connection = _Connection(host, port, min(timeout, _GREETING))
         session = cls(connection)
         try:
-            session._greet(secret)
+            if secret or found:
+                _prove(connection, secret or found or "", f" (there is one in {secret_file(port)})" if found else "")
+            session._greet(f"there is none in {secret_file(port)}" if is_here else "none was named")
         except WorkbenchError:
             session.close()
             raise
         connection.wait_at_most(timeout)
         return session
 
-    def _greet(self, secret: str | None) -> None:
-        """Makes sure that a workbench is there, by the delivery of a job that was not taken: it is refused, and is no recorded call."""
-        first = "" if secret is None else f"{secret}\n"
+    def _greet(self, lack: str) -> None:
+        """Makes sure that a workbench is there, by the delivery of a job that was not taken: it is refused, and is no recorded call.
+
+        A host with a secret sends a challenge in the place of the reply, if it has not sent it before. `lack` says that the client has no secret.
+        """
         try:
-            self._channel.send(first.encode() + _line(_GREETING_REQUEST) + b"\n")
+            self._channel.send(_line(_GREETING_REQUEST) + b"\n")
         except ConnectionEnded:
             pass  # There may be a reply that says why.
         try:
-            if self._greeted() == "BadRequest" and secret is not None:
-                self._greeted()  # The line of a secret that this server does not ask for was refused.
-        except ConnectionEnded as error:
-            raise NotLetIn(f"{error}: {'it may require a secret' if secret is None else 'the secret may be wrong'}") from error
-
-    def _greeted(self) -> str:
-        """How the next reply refuses."""
-        try:
-            self._reply(lambda reply: reply)
+            reply = self._reply(lambda reply: reply)
         except NoSeat:
             raise
-        except Refused as refusal:
-            return refusal.refusal
-        return ""
+        except Refused:
+            return
+        except ConnectionEnded as error:
+            raise NotLetIn(str(error)) from error
+        if "challenge" in reply:
+            raise NoSecret(f"the host lets in only who has its secret, and {lack}: name its file with --secret")
 
     def close(self) -> None:
         """Ends the session; it can be ended again."""

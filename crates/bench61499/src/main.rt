@@ -1,23 +1,25 @@
 //! The program `bench61499`: a workbench for IEC 61499 units that answers requests, one on each line.
 #![tactic(auto)]
 
-use fb_host::{FIRST_LINE_TIMEOUT, HostConfig, Identity, host_on};
+mod secret;
+
+use crate::secret::{HostSecret, RANDOMNESS, draw, wanted_secret};
+use fb_host::{
+    COMMIT_WAIT, FIRST_LINE_TIMEOUT, HostConfig, Identity, KEY_TIMEOUT, REPLY_TIMEOUT, host_on,
+};
 use fb_program::wire::{FromRead, IntoWrite};
 use fb_program::{
-    HostSettings, Outcome, ServerSettings, refuse_file, refuse_port, refuse_secret, refuse_words,
-    run, secret_in,
+    HostSettings, Outcome, ServerSettings, refuse_file, refuse_port, refuse_words, run,
 };
 use fb_serve::{ServerConfig, TURNS, serve};
 use std::alloc::{AllocError, Global};
-use std::fs::File;
-use std::io::{Read, Write};
-use std::net::TcpListener;
+use std::io::Write;
+use std::net::{Net, TcpListener, TcpStream};
 use std::process::ExitCode;
-use std::sync::Mutex;
-use std::{env, fs, io};
-
-/// The system's randomness.
-const RANDOMNESS: &str = "/dev/urandom";
+use std::sync::{Mutex, Wait};
+use std::thread::Threads;
+use std::time::Clock;
+use std::{env, io};
 
 /// How many milliseconds a minute has.
 const MINUTE: u64 = 60_000;
@@ -35,38 +37,111 @@ fn texts<'a>(alloc: Global, words: &'a [String]) -> Result<Vec<&'a str>, AllocEr
     Ok(texts)
 }
 
-/// The secret in the file, or no bytes if no file is named. If the file has none, this says why, and gives the status of the program.
-fn secret_at<E: Write>(
-    rt: &HostRuntime,
-    path: Option<&str>,
-    errors: &mut E,
-) -> Result<Vec<u8>, u8> {
-    let Some(path) = path else {
-        return Ok(Vec::new(rt.alloc()));
-    };
-    let mut bytes = match fs::read(rt, path) {
-        Ok(bytes) => bytes,
-        Err(error) => return Err(refuse_file(path, &error, errors)),
-    };
-    let length = match secret_in(&bytes) {
-        Ok(line) => line.len(),
-        Err(reason) => return Err(refuse_secret(path, reason, errors)),
-    };
-    bytes.truncate(length);
-    Ok(bytes)
-}
-
-/// An identity for a workbench.
-fn drawn_identity(rt: &HostRuntime) -> io::Result<Identity> {
+/// What the system's randomness gives a host: the identity of its workbench, and the key of its challenges.
+fn draw_config(rt: &HostRuntime, settings: &HostSettings<'_>) -> io::Result<HostConfig> {
     let mut high = [0; 8];
     let mut low = [0; 8];
-    let mut source = File::open(rt, RANDOMNESS)?;
-    source.read_exact(&mut high)?;
-    source.read_exact(&mut low)?;
-    Ok(Identity {
-        high: u64::from_le_bytes(high),
-        low: u64::from_le_bytes(low),
+    let identity = draw(rt)?;
+    high.copy_from_slice(&identity[..8]);
+    low.copy_from_slice(&identity[8..16]);
+    Ok(HostConfig {
+        workers: settings.workers,
+        sessions: settings.sessions,
+        limits: settings.limits,
+        first_line_timeout: FIRST_LINE_TIMEOUT,
+        idle_timeout: settings.idle.saturating_mul(MINUTE),
+        reply_timeout: REPLY_TIMEOUT,
+        commit_wait: COMMIT_WAIT,
+        key_timeout: KEY_TIMEOUT,
+        connections: settings.connections,
+        workbench: Identity {
+            high: u64::from_le_bytes(high),
+            low: u64::from_le_bytes(low),
+        },
+        challenge_key: draw(rt)?,
     })
+}
+
+/// Listens at a port of 127.0.0.1, or at any free one for 0. It gives the port as well.
+fn listen(rt: &HostRuntime, port: u16) -> io::Result<(TcpListener, u16)> {
+    let listener = TcpListener::bind(rt, ("127.0.0.1", port))?;
+    let port = listener.local_addr()?.port();
+    Ok((listener, port))
+}
+
+/// A server that stays, before it begins.
+#[derive(Drop)]
+struct Prepared {
+    listener: TcpListener,
+    config: HostConfig,
+    secret: HostSecret,
+}
+
+/// Prepares a server that stays. If that fails, this prints why, and gives the status of the program.
+fn prepare<E: Write>(
+    rt: &HostRuntime,
+    settings: &HostSettings<'_>,
+    errors: &mut E,
+) -> Result<Prepared, u8> {
+    let wanted = wanted_secret(rt, settings, errors)?;
+    let (listener, port) = match listen(rt, settings.port) {
+        Ok(listening) => listening,
+        Err(error) => return Err(refuse_port(settings.port, &error, errors)),
+    };
+    let config = match draw_config(rt, settings) {
+        Ok(config) => config,
+        Err(error) => return Err(refuse_file(RANDOMNESS, &error, errors)),
+    };
+    let secret = HostSecret::at(rt, port, wanted, errors)?;
+    Ok(Prepared {
+        listener,
+        config,
+        secret,
+    })
+}
+
+/// Runs a server that ends by itself. It gives the status of the program.
+fn run_server<
+    R: Net<Listener = TcpListener, Stream = TcpStream> + Threads + Wait + Clock + Sync,
+    W: Write + Drop,
+    E: Write,
+>(rt: &R, alloc: Global, settings: ServerSettings, out: W, errors: &mut E) -> u8 {
+    let ServerSettings {
+        port,
+        workers,
+        sessions,
+        limits,
+    } = settings;
+    let config = ServerConfig {
+        workers,
+        sessions,
+        limits,
+    };
+    let mut writer = IntoWrite::new(out);
+    let ended = serve(rt, alloc, port, config, &mut writer, errors);
+    ended.status
+}
+
+/// Runs a server that stays. It gives the status of the program.
+fn run_host<R: Threads + Wait + Clock + Sync, W: Write + Drop, E: Write + Send + Drop>(
+    rt: &R,
+    alloc: Global,
+    prepared: &Prepared,
+    out: W,
+    errors: E,
+) -> u8 {
+    let mut writer = IntoWrite::new(out);
+    let errors = Mutex::new(errors);
+    let ended = host_on(
+        rt,
+        alloc,
+        &prepared.listener,
+        prepared.config,
+        &prepared.secret.bytes,
+        &mut writer,
+        &errors,
+    );
+    ended.status
 }
 
 fn main(rt: HostRuntime) -> ExitCode {
@@ -88,67 +163,19 @@ fn main(rt: HostRuntime) -> ExitCode {
         &mut errors,
         TURNS,
     );
-    match outcome {
-        Outcome::Ended(status) => ExitCode::from(status),
+    let status = match outcome {
+        Outcome::Ended(status) => status,
         Outcome::Serves(settings) => {
-            let ServerSettings {
-                port,
-                workers,
-                sessions,
-                limits,
-            } = settings;
-            let config = ServerConfig {
-                workers,
-                sessions,
-                limits,
-            };
-            let mut writer = IntoWrite::new(rt.stdout());
-            let ended = serve(&rt, rt.alloc(), port, config, &mut writer, &mut errors);
-            ExitCode::from(ended.status)
+            run_server(&rt, rt.alloc(), settings, rt.stdout(), &mut errors)
         }
-        Outcome::Hosts(settings) => {
-            let HostSettings {
-                port,
-                workers,
-                sessions,
-                limits,
-                secret,
-                idle,
-                connections,
-            } = settings;
-            let secret = match secret_at(&rt, secret, &mut errors) {
-                Ok(secret) => secret,
-                Err(status) => return ExitCode::from(status),
-            };
-            let listener = match TcpListener::bind(&rt, ("127.0.0.1", port)) {
-                Ok(listener) => listener,
-                Err(error) => return ExitCode::from(refuse_port(port, &error, &mut errors)),
-            };
-            let workbench = match drawn_identity(&rt) {
-                Ok(identity) => identity,
-                Err(error) => return ExitCode::from(refuse_file(RANDOMNESS, &error, &mut errors)),
-            };
-            let config = HostConfig {
-                workers,
-                sessions,
-                limits,
-                first_line_timeout: FIRST_LINE_TIMEOUT,
-                idle_timeout: idle.saturating_mul(MINUTE),
-                connections,
-                workbench,
-            };
-            let mut writer = IntoWrite::new(rt.stdout());
-            let errors = Mutex::new(rt.stderr());
-            let ended = host_on(
-                &rt,
-                rt.alloc(),
-                &listener,
-                config,
-                &secret,
-                &mut writer,
-                &errors,
-            );
-            ExitCode::from(ended.status)
-        }
-    }
+        Outcome::Hosts(settings) => match prepare(&rt, &settings, &mut errors) {
+            Err(status) => status,
+            Ok(prepared) => {
+                let status = run_host(&rt, rt.alloc(), &prepared, rt.stdout(), errors);
+                prepared.secret.forget(&rt);
+                status
+            }
+        },
+    };
+    ExitCode::from(status)
 }

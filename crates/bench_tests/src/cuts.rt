@@ -1,7 +1,7 @@
 //! A conversation over streams of std of which each read, each write and each flush fails in turn, or a write takes nothing.
 use crate::conversation::{exchanges_in, new_bench, said};
 use fb_wire::bench::Bench;
-use fb_wire::{FromRead, IntoWrite, RunEnd, run_script};
+use fb_wire::{FromRead, IntoWrite, RunEnd, error_of, run_script};
 use std::alloc::Global;
 use std::io;
 use std::io::{ErrorKind, Read, Write};
@@ -279,4 +279,26 @@ fn each_write_takes_nothing(rt: HostRuntime) -> Result<(), Fail> {
 #[test]
 fn each_flush_fails(rt: HostRuntime) -> Result<(), Fail> {
     compare(&rt, rt.alloc(), Fault::Flush)
+}
+
+/// Each end of a run, and what it prints.
+const TEXTS: &[(RunEnd, &str); 6] = &[
+    (RunEnd::End, ""),
+    (RunEnd::LineTooLong, "line too long"),
+    (RunEnd::ReadFailed, "read failed"),
+    (RunEnd::WriteFailed, "write failed"),
+    (RunEnd::TurnsOver, "too many reads"),
+    (RunEnd::Memory, "out of memory"),
+];
+
+#[test]
+fn each_end_has_a_text(rt: HostRuntime) -> Result<(), Fail> {
+    for (end, text) in TEXTS {
+        let found = match error_of(*end) {
+            Some(error) => format!(in rt.alloc(); "{error}")?,
+            None => String::new(rt.alloc()),
+        };
+        assert_eq!(rt; found.as_str(), *text, "{end:?}");
+    }
+    Ok(())
 }

@@ -2,7 +2,7 @@
 use crate::conversation::new_bench;
 use crate::jobs::{key_in, put};
 use fb_library::Change;
-use fb_wire::bench::{Asked, Bench, Taken};
+use fb_wire::bench::{Asked, Bench, Limits, Taken};
 use fb_wire::jobs::{Finished, Job};
 use std::alloc::Global;
 use std::sync::Arc;
@@ -141,5 +141,49 @@ fn texts_and_values_are_shared(rt: HostRuntime) -> Result<(), Fail> {
         scene.go(rt.alloc(), step)?;
         assert_eq!(rt; scene.owners(), owners, "{step:?}, step {place}");
     }
+    Ok(())
+}
+
+/// How many times a unit changes on which keys of another rest.
+const CHANGES: u64 = 100;
+
+/// The most of its texts that may stay: what was read is kept as a list, of which a few texts are replaced.
+const MOST_TEXTS: usize = 16;
+
+// Puts A with a text of its own for each number, and works until nothing is pending.
+fn change_inner(alloc: Global, bench: &mut Bench, number: u64) -> Result<Arc<String>, Fail> {
+    let mut changes = Vec::new(alloc);
+    let base = if number == 0 { 0 } else { number + 1 };
+    let text = format!(in alloc; "{INNER} (* {number} *)")?;
+    put(alloc, &mut changes, "A", base, &text)?;
+    bench.commit(1, &changes)?;
+    for _ in 0..u64::MAX {
+        if !bench.work_once(1)? {
+            break;
+        }
+    }
+    match changes.first() {
+        Some(Change::Put { source, base: _ }) => Ok(source.shared_text().clone()?),
+        _ => Err(Fail::from("no text")),
+    }
+}
+
+#[test]
+fn few_texts_stay_of_a_unit_that_changes(rt: HostRuntime) -> Result<(), Fail> {
+    let alloc = rt.alloc();
+    let mut bench = new_bench(alloc, 2, 2000)?;
+    let mut outer = Vec::new(alloc);
+    put(alloc, &mut outer, "B", 0, OUTER)?;
+    bench.commit(1, &outer)?;
+    let mut texts = Vec::new(alloc);
+    for number in 0..CHANGES {
+        texts.push(change_inner(alloc, &mut bench, number)?)?;
+    }
+    bench.checkpoint(Limits::new(2, 2000).ok_or("limits")?)?;
+    let count = texts
+        .iter()
+        .filter(|text| Arc::strong_count(*text) > 1)
+        .count();
+    assert!(rt; 0 < count && count <= MOST_TEXTS, "{count} texts");
     Ok(())
 }

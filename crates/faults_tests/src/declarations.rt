@@ -31,7 +31,7 @@ FUNCTION_BLOCK U FBS F:B(X:=1, x:=2); G:B(X:=1); END_FBS PLUGS P:A(V:=1, V:=2); 
 SYSTEM U APPLICATION P FBS F:B; F:B; END_FBS END_APPLICATION APPLICATION Q FBS F:B; END_FBS END_APPLICATION APPLICATION p END_APPLICATION DEVICE P:T RESOURCE R:T END_RESOURCE RESOURCE R:T END_RESOURCE END_DEVICE DEVICE E:T RESOURCE R:T END_RESOURCE END_DEVICE DEVICE P:T RESOURCE R:T END_RESOURCE RESOURCE r:T END_RESOURCE END_DEVICE END_SYSTEM
     => DUPLICATE F #2; DUPLICATE p; DUPLICATE R #2; DUPLICATE P #3; DUPLICATE r
 
-// UNKNOWN_TYPE and WRONG_KIND: types that are absent, broken, and of each kind, in each section; those of devices and resources are not judged.
+// UNKNOWN_TYPE and WRONG_KIND: types that are absent, broken, and of each kind, in each section; those of devices and resources are not checked.
 SUBAPPLICATION U PLUGS P1:NO; P2:BAD; P3:B; P4:A; P5:S; P6:Y; END_PLUGS END_SUBAPPLICATION
     => UNKNOWN_TYPE NO; UNKNOWN_TYPE BAD; WRONG_KIND B; WRONG_KIND S; WRONG_KIND Y
 SUBAPPLICATION U SOCKETS P1:NO; P2:BAD; P3:B; P4:A; P5:S; P6:Y; END_SOCKETS END_SUBAPPLICATION
@@ -53,7 +53,7 @@ fn faults_of_names_and_types(rt: HostRuntime) -> Result<(), Fail> {
 }
 
 const WITHS_AND_INITIAL_VALUES: &str = r#"
-// WITH_UNKNOWN: an event input goes with data inputs, an event output with data outputs. A name stands for its first declaration.
+// WITH_UNKNOWN: an event input goes with data inputs, an event output with data outputs. A name means its first declaration.
 FUNCTION_BLOCK U EVENT_INPUT E WITH I, O, V, E, N, i; END_EVENT EVENT_OUTPUT F WITH O, I, V; END_EVENT VAR_INPUT I:INT; END_VAR VAR_OUTPUT O:INT; END_VAR VAR V:INT; END_VAR END_FUNCTION_BLOCK
     => WITH_UNKNOWN O; WITH_UNKNOWN V; WITH_UNKNOWN E #2; WITH_UNKNOWN N; WITH_UNKNOWN I #2; WITH_UNKNOWN V #2
 FUNCTION_BLOCK U EVENT_INPUT E WITH X, Y; END_EVENT VAR X:INT; END_VAR VAR_INPUT X, Y:INT; END_VAR VAR_OUTPUT Y:INT; END_VAR END_FUNCTION_BLOCK
@@ -76,7 +76,7 @@ FUNCTION_BLOCK U VAR V0:ANY[9]:=TRUE; V1:ANY[9]:=BOOL#1; V2:ANY[9]:=0; V3:ANY[9]
     => LITERAL TRUE; LITERAL BOOL#1; LITERAL WORD#1
 ADAPTER U VAR_INPUT A, B:BOOL:=7; END_VAR VAR_OUTPUT C:INT:=TRUE; C:BOOL:=7; END_VAR END_ADAPTER => LITERAL 7; LITERAL TRUE; DUPLICATE C #2; LITERAL 7 #2
 
-// LITERAL: lists go element by element, for arrays alone and what is not judged; an array takes no value alone but one that is not judged.
+// LITERAL: lists go element by element, only for arrays and what is not checked; an array takes no single value but one that is not checked.
 FUNCTION_BLOCK U VAR L:ARRAY [0..15] OF BOOL:=[TRUE, BOOL#1, 0, 1, 2, 00, -1, 16#F, INT#1, UDINT#1, WORD#1, 1.5, T#1s, 'x', N, ANY_INT#1]; END_VAR END_FUNCTION_BLOCK
     => LITERAL 2; LITERAL 00; LITERAL -1; LITERAL 16#F; LITERAL INT#1; LITERAL UDINT#1; LITERAL WORD#1; LITERAL 1.5; LITERAL T#1s; LITERAL 'x'
 FUNCTION_BLOCK U VAR L:ARRAY [0..3, -1..2] OF DINT:=[TRUE, BOOL#1, 0, 1, 2, 00, -1, 16#F, INT#1, UDINT#1, WORD#1, 1.5, T#1s, 'x', N, ANY_INT#1]; END_VAR END_FUNCTION_BLOCK

@@ -4,7 +4,7 @@ use std::alloc::Global;
 use std::process::Abort;
 use std::test::Fail;
 
-// What stands before and behind the statements of a row: variables, and plugs, sockets and instances whose types are judged or not.
+// What is before and after the statements of a row: variables, and plugs, sockets and instances whose types are checked or not.
 const HEAD: &str =
     "FUNCTION_BLOCK U VAR_INPUT XI:INT; END_VAR VAR_OUTPUT XO:INT; END_VAR VAR X:INT; B:BOOL; W:WORD; R:REAL; F:ANY; S:STRING[5]; A:ARRAY[0..9] OF INT; C:ARRAY[0..9] OF BOOL; B:INT; END_VAR PLUGS P:AD; N:NONE; K:BAD; M:TU; END_PLUGS SOCKETS Q:AD; Z:TU; END_SOCKETS FBS I:TU; Q:TU; J:TU; END_FBS PLUGS J:AD; END_PLUGS EVENT_INPUT EI; END_EVENT ALGORITHM G IN ST: ";
 
@@ -15,7 +15,7 @@ const KNOWN: &str =
     "DUPLICATE B #2; UNKNOWN_TYPE NONE; UNKNOWN_TYPE BAD; WRONG_KIND TU; WRONG_KIND TU #2; DUPLICATE Q #2; DUPLICATE J #2";
 
 const EXPRESSIONS: &str = r#"
-// VARIABLE_UNKNOWN, and CLASS of what a name stands for
+// VARIABLE_UNKNOWN, and CLASS of what a name means
 X := XI; XO := X; XI := XO;
 x := xo;
 Y := 1; => VARIABLE_UNKNOWN Y
@@ -30,7 +30,7 @@ B := P.V; X := Q.U; => CLASS :=; CLASS := #2
 X := P.Y; Q . E := 1; => VARIABLE_UNKNOWN P.Y; VARIABLE_UNKNOWN Q . E
 // the type is absent, broken or no adapter
 X := N.V; B := K.Y; Z.V := TRUE; M.Y := N.V OR 5 + N.V;
-// an instance of a block, and a name that stands for none
+// an instance of a block, and a name that means none
 X := I.V; Y.V := 1; J.V := 1; => VARIABLE_UNKNOWN I.V; VARIABLE_UNKNOWN Y.V; VARIABLE_UNKNOWN J.V
 // a variable of an elementary type has no members
 X := X.V; => MEMBER_UNKNOWN V
@@ -42,12 +42,12 @@ X := A[(W)] + A[-R]; => CLASS (W); CLASS -R
 // no array: other values
 F := TRUE; R := F[1]; B := F[1]; S[1] := R; => CLASS := #3
 W := P.L[1]; X := P.L[2]; X := P.L[TRUE]; => CLASS := #2; CLASS := #3; CLASS TRUE
-// what is unknown or not judged has subscripts all the same
+// what is unknown or not checked has subscripts all the same
 X := Y[B]; X := N.V[TRUE, 1]; => VARIABLE_UNKNOWN Y; CLASS B; CLASS TRUE
 X := P.Y[Y]; => VARIABLE_UNKNOWN P.Y; VARIABLE_UNKNOWN Y #2
 X := A[A[A[B]]]; => CLASS B
 X := A[A[TRUE] AND 2]; => CLASS TRUE; CLASS AND
-// no elementary type has a field, a plug has no subscripts, and all subscripts are judged
+// no elementary type has a field, a plug has no subscripts, and all subscripts are checked
 X := A[0].V; B := Y[B].V[TRUE]; X.V.W := TRUE; B := P.V.W AND 1;
     => MEMBER_UNKNOWN V; VARIABLE_UNKNOWN Y; CLASS B #2; CLASS TRUE; MEMBER_UNKNOWN V #3; MEMBER_UNKNOWN W #2
 P.L[0].V := TRUE; X := P[1].V; B := N.V.W[1.5].U[Y]; => MEMBER_UNKNOWN V; VARIABLE_UNKNOWN P #2; CLASS 1.5; VARIABLE_UNKNOWN Y
@@ -59,7 +59,7 @@ X := X + TRUE; => CLASS +
 B := X = 1 AND X < 2.5 OR NOT B XOR 1;
 W := W AND 255 OR NOT W;
 X := X AND 1; W := W + 1; => CLASS AND; CLASS +
-// an operation that breaks its rule is not judged further
+// an operation that breaks its rule is not checked further
 X := X + TRUE + B; B := -B OR X; => CLASS +; CLASS -
 // a comparison is a truth value, even a wrong one
 X := B = 5; => CLASS :=; CLASS = #2
@@ -118,7 +118,7 @@ fn compare_within(
     compare(rt, alloc, (head.as_str(), foot.as_str()), KNOWN, rows)
 }
 
-// What a statement may stand in, without a fault of its own.
+// What a statement may be inside, without a fault of its own.
 static AROUND: [(&str, &str); 8] = [
     ("IF B THEN ", " END_IF"),
     ("IF B THEN ELSIF 1 THEN ", " END_IF"),

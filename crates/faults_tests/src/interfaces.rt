@@ -1,14 +1,14 @@
 //! The ports that `interface` gives, written as six lists: event inputs, event outputs, data inputs, data outputs, plugs and sockets. After each
 //! name is its type, if it has one.
-use crate::plant::{lines_of, row_in};
 use fb_iface::{Ports, interface, is_beside, is_same_role, is_same_side};
 use fb_library::parse::Source;
 use fb_tree::text::{Name, NameUse};
 use fb_tree::{Role, Side};
+use refusing::{lines_of, row_in};
 use std::alloc::{AllocError, Global};
 use std::test::Fail;
 
-// Texts, and their ports. A name stands for its first declaration, and internal variables are no ports.
+// Texts, and their ports. A name means its first declaration, and internal variables are no ports.
 const INTERFACES: &str = r#"
 FUNCTION_BLOCK TN EVENT_INPUT I; END_EVENT EVENT_OUTPUT O; END_EVENT VAR_INPUT DT:TIME; END_VAR END_FUNCTION_BLOCK => [ I ] [ O ] [ DT:TIME ] [ ] [ ] [ ]
 FUNCTION_BLOCK W VAR X:INT; END_VAR VAR_INPUT X, Y:BOOL; END_VAR VAR_OUTPUT Z:ARRAY[0..1] OF WORD; END_VAR EVENT_INPUT B; A:KIND; B; END_EVENT PLUGS P:AD; END_PLUGS SOCKETS Q:AD; P:B; END_SOCKETS END_FUNCTION_BLOCK

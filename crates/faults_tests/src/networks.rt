@@ -147,7 +147,7 @@ G:B; G:B(N:=1, X:=[1]); => DUPLICATE G #2; PARAMETER_UNKNOWN N; LITERAL [1]
 G:ABSENT(N:=1); H:BAD(N:=1); K:AD(N:=1); => UNKNOWN_TYPE ABSENT; UNKNOWN_TYPE BAD; WRONG_KIND AD
 "#;
 
-// A name stands for its first declaration.
+// A name means its first declaration.
 const FIRST: &str = r#"
 DATA_CONNECTIONS A TO P.X; => PORT_UNKNOWN A
 EVENT_CONNECTIONS P.O TO P.I;

@@ -2,9 +2,10 @@
 //!
 //! The class of an expression shows in the statements that may contain it: B and Any as a truth value, I, Num and Any as a subscript, W, Num
 //! and Any as a string of bits, and what is not checked before `MOD TRUE` too.
-use crate::plant::{faults_of, library, lines_of, row_in};
+use crate::plant::{faults_of, library};
 use fb_iface::Code;
 use fb_library::Library;
+use refusing::{lines_of, row_in};
 use std::alloc::Global;
 use std::process::Abort;
 use std::test::Fail;
@@ -15,7 +16,7 @@ const HEAD: &str =
 // Operands of the classes B, I, W, O, Free, Num and Any.
 static OPERANDS: [&str; 7] = ["B", "X", "W", "R", "F", "2", "1"];
 
-// What operators make of the pairs of classes, by the left one. `-` stands where their rule is broken.
+// What operators make of the pairs of classes, by the left one. `-` means that their rule is broken.
 const PAIRS: &str = r#"
 OR XOR AND => B---F-B ----F-- --W-FWW ----F-- FFFFFFF --W-FNN B-W-FNA
 = <> < > <= >= => B---B-B -B-BBBB --B-BBB -B-BBBB BBBBBBB -BBBBBB BBBBBBB
@@ -53,7 +54,7 @@ static STATEMENTS: [(&str, &str); 4] = [
     ("F := (", ") MOD TRUE;"),
 ];
 
-// In which of these an expression of each class may stand.
+// In which of these an expression of each class may be.
 static LETTERS: [(&str, &str); 7] = [
     ("+---", "B"),
     ("-+--", "I"),

@@ -9,6 +9,7 @@ use fb_iface::Fault;
 use fb_library::parse::Source;
 use fb_library::{Change, Library};
 use fb_tree::text::{Name, Span};
+use refusing::{lines_of, row_in};
 use std::alloc::{AllocError, Global};
 use std::process::Abort;
 use std::test::Fail;
@@ -153,22 +154,6 @@ fn parted(
         }
     }
     Ok((in_head, behind))
-}
-
-/// The lines of a table. If what is expected of a text is in the line after it, both become one line.
-pub fn lines_of(alloc: Global, table: &str) -> Result<String, Fail> {
-    if !table.contains("=> ") {
-        return Err(Fail::from("a table without rows"));
-    }
-    Ok(table.replace(alloc, "\n    => ", " => ")?)
-}
-
-/// The text in a line of a table, if there is one, and what is expected of it.
-pub fn row_in(line: &str) -> Option<(&str, &str)> {
-    if line.is_empty() || line.starts_with("// ") {
-        return None;
-    }
-    Some(line.split_once(" => ").unwrap_or((line, "")))
 }
 
 /// Compares the faults of a text with those that are known of its head, those that are expected after, and those of the checkers.

@@ -1,7 +1,8 @@
 //! Tables of libraries. Under each heading, `== WHAT IT IS`, there are the units of a library with what is asked of them: in each line
 //! `NAME: TEXT => ANSWER`. In the place of a text there may be `VARIABLES | STATEMENTS` of a block.
-use crate::plant::{lines_of, put, row_in};
+use crate::plant::put;
 use fb_library::Library;
+use refusing::{lines_of, row_in};
 use std::alloc::{AllocError, Global};
 use std::process::Abort;
 use std::test::Fail;

@@ -1,6 +1,6 @@
 -- What is kept after a checkpoint.
 use Rattle.std.proofs.Common.{◌≡◌, ℕ, List, filter, refl, sym, subst, arith}
-use Rattle.fb_entries.specs.{Keyed.{Keyed}, Library.Texts.{Texts}, Jobs.declared.key.Key.{Key}, Index.Indexed.{Indexed}}
+use Rattle.fb_entries.specs.{Keyed.{Keyed}, Library.Texts.{Texts}, Jobs.declared.keys.key.Key.{Key}, Index.Indexed.{Indexed}}
 use Rattle.fb_history.specs.{Checkpoints.{checkpointed, restarted}, Limits.{Bounds}, Machine.{State, keys_of}, BenchView.{BenchView, replies, state_of}}
 use Rattle.fb_history.proofs.Restarts.{goes_on, unseen}
 use Rattle.fb_bench.specs.Consistent.{Agrees, IsConsistent}

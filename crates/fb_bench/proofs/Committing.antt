@@ -3,7 +3,7 @@ use Rattle.std.proofs.Common.{◌≡◌, ℕ, ◌+◌, ◌<◌, ◌≤◌, Bool,
 use Rattle.std.proofs.lemmas.Bool.Decides.{nat_tests}
 use Rattle.std.specs.Option.{option_map}
 use Rattle.fb_entries.specs.{Keyed.{Keyed}, Library.Texts.{Texts, Held, held, text_in, text_at, Edit, Puts, Removes, unit_of, all_edited}}
-use Rattle.fb_entries.specs.{Jobs.declared.key.Key.{Key}, declared.renewal.Renewal.{Renewal}, Renew.{IsCarriedOut, IsRenewal, HasRoom}}
+use Rattle.fb_entries.specs.{Jobs.declared.keys.key.Key.{Key}, declared.renewal.Renewal.{Renewal}, Renew.{IsCarriedOut, IsRenewal, HasRoom}}
 use Rattle.fb_history.specs.declared.answers.Committed.{Committed}
 use Rattle.fb_history.specs.declared.answers.Committed.TheVariants.{Done, NoChange, TooManyChanges, SameUnitTwice, StaleBase, NoSuchUnit, TooManyUnits}
 use Rattle.fb_history.specs.Machine.{after_give_back, give_back_answer, State, Call, ToCommit, ToTake, ToDeliver, ToGiveBack, ToAsk, OfCommit, reply, after, commit_answer, after_commit, after_take, after_deliver, deliver_answer, next, after_done, refusal, or_else, or_some, repeated_refusal, first_repeated, first_misfit, misfit, misfit_at}

@@ -1,7 +1,7 @@
 -- A workbench that has done nothing.
 use Rattle.std.proofs.Common.{◌≡◌, ℕ, false, [], refl, sym, ap, subst, arith}
 use Rattle.std.specs.{Map.{lookup}, BTreeMap.{is_at}, List.{list_any}}
-use Rattle.fb_entries.specs.{Keyed.{Keyed}, Library.Texts.{Texts}, Jobs.declared.key.Key.{Key}, Jobs.Keys.{has_key}, Jobs.KeyOrder.{key_cmp}}
+use Rattle.fb_entries.specs.{Keyed.{Keyed}, Library.Texts.{Texts}, Jobs.declared.keys.key.Key.{Key}, Jobs.Keys.{has_key}, Jobs.KeyOrder.{key_cmp}}
 use Rattle.fb_entries.specs.Index.Indexed.{Indexed, nothing_indexed}
 use Rattle.fb_history.specs.BenchView.{BenchView, empty_origin, new_bench, opened, replay, replies}
 use Rattle.fb_bench.specs.Consistent.{Agrees, IsConsistent, EntryFits}

@@ -1,6 +1,6 @@
 -- What is shown as pending is due.
 use Rattle.std.proofs.Common.{◌≡◌, Bool, true, false, ◌&&◌, not, refl, cond}
-use Rattle.fb_entries.specs.{Jobs.declared.key.Key.{Key}, Jobs.Keys.{Finding, has_key, scratch}}
+use Rattle.fb_entries.specs.{Jobs.declared.keys.key.Key.{Key}, Jobs.Keys.{Finding, has_key, scratch}}
 use Rattle.fb_history.specs.Machine as machine
 use Rattle.fb_history.specs.{Machine.{Finds, Waits, Unknown}, BenchView.{BenchView, IsOrigin, opened, calls_of, state_of}, Due.{due_from, is_due}}
 use Rattle.fb_bench.specs.{declared.peek.Shown.{Shown}, declared.peek.Shown.TheVariants.{NoSuchKey, Pending, Value}, Peeks.{shown_by, is_pending}}

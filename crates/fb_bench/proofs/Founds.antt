@@ -1,6 +1,6 @@
 -- Nets that were found for current reads are those of the present texts.
 use Rattle.std.proofs.{Common.{◌≡◌, ℕ, List, [], ◌∷◌, All, map, sym, subst}, lemmas.List.Elements.{All-nil, All-cons, All-head, All-tail, All-map}}
-use Rattle.fb_entries.specs.{Library.Texts.{Texts}, Jobs.declared.hints.Hint.{Hint}, Jobs.declared.value.Value.{Value}, Jobs.Hints.{IsNetOf, net_key}}
+use Rattle.fb_entries.specs.{Library.Texts.{Texts}, Jobs.declared.kept.hints.Hint.{Hint}, Jobs.declared.values.value.Value.{Value}, Jobs.Hints.{IsNetOf, net_key}}
 use Rattle.fb_entries.specs.{Jobs.Keys.{scratch}, Jobs.Reads.{PlainJob, read_texts}, Jobs.Values.{finding_of}, Jobs.Work.{IsFoundFor}}
 use Rattle.fb_bench.specs.Founds.{HasNetsOf, said}
 

@@ -1,6 +1,6 @@
 -- Answers by the texts and the calls alone, and what refusals leave.
 use Rattle.std.proofs.Common.{◌≡◌, ℕ, Bool, true, false, ◌&&◌, not, refl, sym, ap, cond, ◌∙◌}
-use Rattle.fb_entries.specs.{Jobs.declared.key.Key.{Key}, Jobs.Keys.{Finding, has_key, scratch}}
+use Rattle.fb_entries.specs.{Jobs.declared.keys.key.Key.{Key}, Jobs.Keys.{Finding, has_key, scratch}}
 use Rattle.fb_history.specs.Machine.{Call, ToCommit, ToTake, ToDeliver, ToGiveBack, ToAsk, Reply, OfCommit, OfTake, OfDeliver, OfGiveBack, OfAsk, Shown, Finds, Waits, Unknown, shown}
 use Rattle.fb_history.specs.{BenchView.{BenchView, IsOrigin, opened, calls_of, recorded, reply_at, state_of}, Due.{due_from}, Laws.{is_refusal}}
 use Rattle.fb_history.proofs.{AfterCalls.{entry_is, refused_stays}, Dues.{pending_is_due}, Steps.{reply_ask, state_recorded}}

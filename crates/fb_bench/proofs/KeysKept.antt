@@ -6,7 +6,7 @@ use Rattle.std.proofs.{lemmas.Map.Keys.{IsDistinct-from_sorted}, lemmas.Cmp.{eq_
 use Rattle.std.specs.{BTreeMap.{is_at}, BTreeSet.{insert_key}, List.Sorted.{IsStrictlySortedBy}, Map.{keys_of as keys_in, values_of}, Ordering.{match_ordering}}
 use Rattle.fb_text.specs.Order.{in_order}
 use Rattle.fb_text.proofs.OrderLemmas.{in_order-same}
-use Rattle.fb_entries.specs.{Keyed.{Keyed, entry_at}, Library.Texts.{Texts}, Jobs.declared.key.Key.{Key}, Jobs.Keys.{has_key}}
+use Rattle.fb_entries.specs.{Keyed.{Keyed, entry_at}, Library.Texts.{Texts}, Jobs.declared.keys.key.Key.{Key}, Jobs.Keys.{has_key}}
 use Rattle.fb_entries.specs.{Jobs.KeyOrder.{key_cmp, key_cmp_total}, declared.entry.Entry.{Entry}, Marking.{is_handed_out, is_of, is_unkept, keys_with}}
 use Rattle.fb_history.specs.{Machine.{State, keys_of}, BenchView.{BenchView, IsOrigin, state_of}}
 use Rattle.fb_bench.specs.Consistent.{EntryFits, Agrees}

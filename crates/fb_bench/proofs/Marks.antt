@@ -2,8 +2,8 @@
 use Rattle.std.proofs.Common.{◌≡◌, ℕ, Bool, true, false, ◌||◌, ◌&&◌, not, List, refl, sym, ap, ◌∙◌, subst, Option, Some, None, [], ◌∷◌, arith, cond}
 use Rattle.std.proofs.lemmas.{Bool.{and_parts}, Bool.Decides.{nat_tests}, Cmp.{nat_list_eq_equiv}}
 use Rattle.std.specs.{Option.{option_map}, BTreeMap.{is_at}, List.{list_any}, Map.{lookup}, declared.sync.Arc.{Arc}, declared.alloc.Global.{Global}}
-use Rattle.fb_entries.specs.{Keyed.{Keyed, IsFirstReady, can_take, entry_at}, Library.Texts.{Texts, Held, held}, Jobs.declared.key.Key.{Key}}
-use Rattle.fb_entries.specs.{Jobs.declared.value.Value.{Value}, Jobs.Values.{finding_of}, Jobs.Hints.{AreKept}, Jobs.Keys.{Finding, has_key, needs, scratch}}
+use Rattle.fb_entries.specs.{Keyed.{Keyed, IsFirstReady, can_take, entry_at}, Library.Texts.{Texts, Held, held}, Jobs.declared.keys.key.Key.{Key}}
+use Rattle.fb_entries.specs.{Jobs.declared.values.value.Value.{Value}, Jobs.Values.{finding_of}, Jobs.Hints.{AreKept}, Jobs.Keys.{Finding, has_key, needs, scratch}}
 use Rattle.fb_entries.specs.{Jobs.KeyOrder.{key_cmp, same_key}, declared.entry.Entry.{Entry}, Jobs.Reads.{PlainJob, reads_under, same_found, stale}, Found.{found_in, kept_in}}
 use Rattle.fb_entries.specs.Marking.{unless_kept, with_found, with_out, with_value, ChangesEntry, MarksKey, SameKeys}
 use Rattle.fb_history.specs.Machine.{State, OfTake, ToTake, is_ready, next, after_take, after_deliver, plain_job_for, removed, taken, unless_stale, deliver_answer}

@@ -1,8 +1,8 @@
 -- What is kept after a commit that is done, and after one that found no memory.
 use Rattle.std.proofs.Common.{◌≡◌, ℕ, Bool, true, false, ◌||◌, ◌&&◌, not, List, map, refl, sym, ap, ◌∙◌, subst, Option, Some, None, cond, is_none}
 use Rattle.fb_text.proofs.Tests.{or_true, and_false}
-use Rattle.fb_entries.specs.{Keyed.{Keyed, can_take, entry_at}, Library.Texts.{Texts, Edit, unit_of, all_edited, text_in}, Jobs.declared.key.Key.{Key}}
-use Rattle.fb_entries.specs.{Jobs.declared.key.Kind.{Kind}, Jobs.Keys.{has_key, has_kind_at}, Jobs.Reads.{is_among}, declared.entry.Entry.{Entry}}
+use Rattle.fb_entries.specs.{Keyed.{Keyed, can_take, entry_at}, Library.Texts.{Texts, Edit, unit_of, all_edited, text_in}, Jobs.declared.keys.key.Key.{Key}}
+use Rattle.fb_entries.specs.{Jobs.declared.keys.key.Kind.{Kind}, Jobs.Keys.{has_key, has_kind_at}, Jobs.Reads.{is_among}, declared.entry.Entry.{Entry}}
 use Rattle.fb_entries.specs.{declared.renewal.Renewal.{Renewal}, Marking.{is_of, waiting_if}}
 use Rattle.fb_entries.specs.Renew.{is_own, is_fresh, is_renewed, IsCarriedOut, IsRenewal, HasRoom, IsTakenBack}
 use Rattle.std.specs.Option.{option_map}

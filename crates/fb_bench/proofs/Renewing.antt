@@ -5,8 +5,8 @@ use Rattle.std.specs.{Map.{remove_entry}, BTreeMap.{is_at, insert_entry}, Orderi
 use Rattle.std.specs.{declared.alloc.Global.{Global}, declared.cmp.Ordering.TheVariants.{Less, Equal, Greater}, Option.{option_map}}
 use Rattle.fb_text.proofs.{Tests.{or_false, and_false, and_true}, OrderLemmas.{is_equal}}
 use Rattle.fb_entries.proofs.Library.Names.{exact_name, name_total}
-use Rattle.fb_entries.specs.{Library.Texts.{Texts, Held, held, text_in, Edit, Puts, Removes, unit_of, edited, all_edited}, Jobs.declared.key.Key.{Key}}
-use Rattle.fb_entries.specs.{Jobs.declared.value.Value.{Value}, Jobs.Keys.{has_key, needs, scratch}, Jobs.Reads.{is_among, Agree}, declared.entry.Entry.{Entry}}
+use Rattle.fb_entries.specs.{Library.Texts.{Texts, Held, held, text_in, Edit, Puts, Removes, unit_of, edited, all_edited}, Jobs.declared.keys.key.Key.{Key}}
+use Rattle.fb_entries.specs.{Jobs.declared.values.value.Value.{Value}, Jobs.Keys.{has_key, needs, scratch}, Jobs.Reads.{is_among, Agree}, declared.entry.Entry.{Entry}}
 use Rattle.fb_entries.specs.Marking.{waiting}
 use Rattle.fb_text.specs.Order.{name_cmp}
 use Rattle.fb_history.specs.Machine.{State, after_done, reaches}

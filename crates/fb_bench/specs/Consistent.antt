@@ -1,6 +1,6 @@
 -- What a workbench keeps beside its history agrees with where the history has led.
 use Rattle.std.specs.{Prelude.{◌≡◌, ℕ, ◌≤◌, true, false, Option, Some, None, is_none}, declared.sync.Arc.{Arc}, declared.alloc.Global.{Global}}
-use Rattle.fb_entries.specs.{Keyed.{Keyed, can_take, entry_at}, Library.Texts.{Texts}, Jobs.declared.key.Key.{Key}, Jobs.declared.value.Value.{Value}}
+use Rattle.fb_entries.specs.{Keyed.{Keyed, can_take, entry_at}, Library.Texts.{Texts}, Jobs.declared.keys.key.Key.{Key}, Jobs.declared.values.value.Value.{Value}}
 use Rattle.fb_entries.specs.{Jobs.Keys.{has_key, scratch}, Jobs.Values.{finding_of}, declared.entry.Entry.{Entry}, Index.Indexed.{Indexed}, Indexed.{IsIndexOf}}
 use Rattle.fb_history.specs.{Machine.{State, is_ready}, BenchView.{BenchView, IsOrigin, last_number, state_of, IsReplay}}
 

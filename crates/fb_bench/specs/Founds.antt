@@ -1,6 +1,6 @@
 -- Nets that were computed on the way to another value.
 use Rattle.std.specs.Prelude.{ℕ, List, All}
-use Rattle.fb_entries.specs.{Keyed.{Keyed}, Library.Texts.{Texts}, Jobs.declared.hints.Hint.{Hint}, Jobs.declared.value.Value.{Value}, Jobs.Hints.{IsNetOf}}
+use Rattle.fb_entries.specs.{Keyed.{Keyed}, Library.Texts.{Texts}, Jobs.declared.kept.hints.Hint.{Hint}, Jobs.declared.values.value.Value.{Value}, Jobs.Hints.{IsNetOf}}
 use Rattle.fb_entries.specs.{Jobs.Reads.{PlainJob, read_texts}, Jobs.Work.{IsFoundFor}}
 use Rattle.fb_history.specs.Machine.{State}
 use Rattle.fb_bench.specs.Consistent.{Agrees}

@@ -67,7 +67,7 @@ impl Bench {
     ghost use Rattle.fb_history.specs.BenchView.{IsOrigin, IsFull, new_bench, state_of, reply_at, recorded, record_of, record_numbered, all_turns, last_number, pages_after, calls_of, IsReplay, AreTurns};
     ghost use Rattle.fb_history.specs.{Events.{last_event_of}, Records.{records_in}, Checkpoints.{checking, checkpointed, ChecksAs}, Due.{is_due}, Laws.{entry_after}};
     ghost use Rattle.fb_bench.specs.{Records.{call_of, reply_of, shown_in, job_in, commit_of}, Refusals.{IsFullRefusal, round_as}};
-    ghost use Rattle.fb_bench.specs.{Requests.{call_for, reply_in}, Calls.{Fits, ServesRound}, Solo.{IsCallStep}, Headline.{LeavesState, ShowsEntry}, Peeks.{shown_by, is_pending}};
+    ghost use Rattle.fb_bench.specs.{Requests.{call_for, reply_in}, Calls.{Fits, ServesRound}, Solo.{IsCallStep, IsOpenCall}, Headline.{LeavesState, ShowsEntry}, Peeks.{shown_by, is_pending}};
 
     /// An empty workbench. It keeps the allocator for all its calls.
     pub fn new(alloc: Global, limits: Limits) -> Bench
@@ -544,14 +544,15 @@ impl Bench {
     pub fn work_once(&mut self, caller: u32) -> Result<bool, Refused>
         ensures round { ServesRound (IsCallStep caller) self.old (round_as result) self.new }
         ensures full { IsFull self.old.log → result ≡ Err Refused.HistoryFull }
+        ensures open { IsOpenCall self.new (round_as result) }
     {
         let Taken::Job(job) = self.take(caller)? else {
             return Ok(false);
         };
-        let finished = job.run(self.alloc)?;
         if self.history.is_full() {
             return Err(Refused::HistoryFull);
         }
+        let finished = job.run(self.alloc)?;
         self.take_in(caller, &finished)?;
         Ok(true)
     }

@@ -211,6 +211,7 @@ impl Desk for Solo<'_> {
     fn work_once(&mut self, _alloc: Global) -> Result<Option<Delivered>, DeskError>
         ensures round { ServesRound SoloCall self.old result self.new }
         ensures full { IsFull self.old.bench.now.log → result ≡ Err DeskError.HistoryFull }
+        ensures open { IsOpenCall self.new.bench.now result }
     {
         let has_worked = self.bench.work_once(self.caller)?;
         Ok(has_worked.then_some(Delivered::Accepted))

@@ -2,7 +2,7 @@
 use Rattle.std.proofs.Common.{◌≡◌, ◌+◌, ℕ, List, count_by, Option, Some, sym, ap, arith, cond, option_map, unwrap_or}
 use Rattle.std.proofs.lemmas.Map.Entries.{sum_by-insert_entry, sum_by-remove_entry, sum_by-set_value}
 use Rattle.std.specs.{Map.{keys_of, remove_entry, set_value, values_of}, BTreeMap.{insert_entry, is_at}, List.Sorted.{IsStrictlySortedBy}}
-use Rattle.fb_jobs.specs.{declared.key.Key.{Key}, KeyOrder.{key_cmp, key_cmp_total}}
+use Rattle.fb_jobs.specs.{declared.keys.key.Key.{Key}, KeyOrder.{key_cmp, key_cmp_total}}
 use Rattle.fb_entries.specs.{declared.entry.Entry.{Entry}, Keyed.{entry_in}, Marking.{is_unkept}}
 
 -- how many of these entries have no value

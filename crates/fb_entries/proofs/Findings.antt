@@ -2,7 +2,7 @@
 use Rattle.std.proofs.Common.{◌≡◌, ◌↔◌, ℕ, Bool, true, false, ◌||◌, ◌&&◌, not, List, filter, refl, sym, ap, ◌∙◌, Option, None, cond, is_none}
 use Rattle.fb_text.proofs.Tests.{and_false}
 use Rattle.fb_index.specs.{Library.Texts.{Texts}, Indexed.{Indexed}}
-use Rattle.fb_jobs.specs.{declared.key.Key.{Key}, Keys.{has_key}, Kinds.{all_keys}, Reach.{reaches}}
+use Rattle.fb_jobs.specs.{declared.keys.key.Key.{Key}, Keys.{has_key}, Kinds.{all_keys}, Reach.{reaches}}
 use Rattle.fb_entries.specs.{Keyed.{Keyed, can_take, entry_at}, declared.entry.Entry.{Entry}, declared.renewal.Renewal.{Renewal}, Marking.{is_of}}
 use Rattle.fb_entries.specs.{Renew.{is_own, is_renewed, IsRenewal, HasRoom, IsTakenBack}, Indexed.{IsIndexOf, IsReached}}
 use Rattle.fb_jobs.proofs.Members.{of_filtered}

@@ -1,7 +1,7 @@
 -- One more of some keys, in a map or in a set.
 use Rattle.std.proofs.Common.{◌≡◌, ℕ, Bool, true, false, ◌||◌, List, [], ◌∷◌, ◌++◌, take, drop, refl, sym, ap, ◌∙◌, Option, Some, None, cond, is_none}
 use Rattle.std.proofs.lemmas.List.{take-append-drop}
-use Rattle.fb_jobs.specs.{declared.key.Key.{Key}, KeyOrder.{same_key}}
+use Rattle.fb_jobs.specs.{declared.keys.key.Key.{Key}, KeyOrder.{same_key}}
 use Rattle.fb_entries.specs.{declared.entry.Entry.{Entry}, Marking.{is_of, waiting_if}}
 use Rattle.fb_jobs.proofs.Members.{of_more, of_both}
 

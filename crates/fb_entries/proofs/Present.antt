@@ -1,7 +1,7 @@
 -- The keys of units that texts have, kind by kind.
 use Rattle.std.proofs.{Common.{◌≡◌, ℕ, Bool, List, [], ◌∷◌, ◌++◌, filter, ap, ◌∙◌, cond, append_assoc, append-nil, sym, refl}, lemmas.List.Elements.{filter-append}}
 use Rattle.fb_index.specs.Library.Texts.{Texts}
-use Rattle.fb_jobs.specs.{declared.key.Key.{Key}, declared.key.Kind.{Kind}, declared.key.Kind.TheVariants.{Faults, Net, Deploy}, Keys.{has_key}, Kinds.{keys_near_and_far, keys_of_kind}}
+use Rattle.fb_jobs.specs.{declared.keys.key.Key.{Key}, declared.keys.key.Kind.{Kind}, declared.keys.key.Kind.TheVariants.{Faults, Net, Deploy}, Keys.{has_key}, Kinds.{keys_near_and_far, keys_of_kind}}
 
 -- the keys of one kind that the texts have
 abbrev pub present : Texts → Kind → List (List ℕ) → List Key

@@ -12,7 +12,7 @@ use Rattle.fb_index.specs.{Library.Texts.{Texts, sources_of, text_at}, Library.V
 use Rattle.fb_index.proofs.Library.SeenLemmas.{or_left, or_right, same_is, same_self, has-append, Contains-has, has-Contains}
 use Rattle.fb_index.proofs.Library.CarriedLemmas.{near_is_all}
 use Rattle.fb_jobs.proofs.{Flatten.FarNames.{far_is_all}, KindLemmas.{in_near_and_far, needs_by, no_kind}}
-use Rattle.fb_jobs.specs.{Flatten.Far.{far_of}, declared.key.Kind.{Kind}, Kinds.{keys_near_and_far, needs_all}, declared.key.Key.{Key}}
+use Rattle.fb_jobs.specs.{Flatten.Far.{far_of}, declared.keys.key.Kind.{Kind}, Kinds.{keys_near_and_far, needs_all}, declared.keys.key.Key.{Key}}
 use Rattle.fb_jobs.specs.{Keys.{has_key, has_kind_at, needs}, Reads.{is_among}, Reach.{reaches}}
 use Rattle.fb_entries.specs.{Indexed.{IsIndexOf, IsReached, IsReachedFrom}, Marking.{is_of}}
 

@@ -2,7 +2,7 @@
 use Rattle.std.proofs.Common.{◌≡◌, Bool, true, false, List, IsSome, sym, ap, subst, refl, ◌∙◌, Some, None, cond, rules}
 use Rattle.std.specs.Option.{option_map}
 use Rattle.std.specs.BTreeMap as tree
-use Rattle.fb_jobs.specs.{declared.key.Key.{Key}, KeyOrder.{key_cmp, same_key}}
+use Rattle.fb_jobs.specs.{declared.keys.key.Key.{Key}, KeyOrder.{key_cmp, same_key}}
 use Rattle.fb_entries.specs.{declared.entry.Entry.{Entry}, Keyed.{entry_in}, Marking.{ChangesEntry}}
 use Rattle.fb_jobs.proofs.Order.{keys_equal}
 

@@ -2,7 +2,7 @@
 use Rattle.std.specs.Prelude.{◌≡◌, ◌↔◌, ℕ, Bool, true, false, List, is_some}
 use Rattle.fb_index.specs.{Indexed.{Indexed, is_indexed, IsIndexedAs}, Near.{NearSome, ReachesSome}, Library.Texts.{Texts, text_at, sources_of}}
 use Rattle.fb_index.specs.Library.View.{mentioned_at}
-use Rattle.fb_jobs.specs.{declared.key.Key.{Key}, declared.key.Kind.{Kind}, Keys.{has_key}, Kinds.{needs_all}, Reach.{reaches}}
+use Rattle.fb_jobs.specs.{declared.keys.key.Key.{Key}, declared.keys.key.Kind.{Kind}, Keys.{has_key}, Kinds.{needs_all}, Reach.{reaches}}
 
 -- what is indexed of a unit is what it mentions in these texts, and each of their units is indexed
 pub record IsIndexOf (texts : Texts) (index : Indexed) : Type 0 where

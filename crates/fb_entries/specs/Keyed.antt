@@ -1,6 +1,6 @@
 -- What contracts see of what a workbench knows of its keys.
 use Rattle.std.specs.{Prelude.{◌≡◌, Bool, false, true, List, Option, Some, None}, BTreeMap.{is_at}, List.{list_any}, Map.{lookup}, Ordering.{is_gt}}
-use Rattle.fb_jobs.specs.{declared.key.Key.{Key}, KeyOrder.{key_cmp}}
+use Rattle.fb_jobs.specs.{declared.keys.key.Key.{Key}, KeyOrder.{key_cmp}}
 use Rattle.fb_entries.specs.declared.entry.Entry.{Entry}
 
 -- the keys with their entries, and the keys that are pending and not handed out, both in order

@@ -1,7 +1,7 @@
 -- What small steps write to entries and to sets of keys.
 use Rattle.std.specs.{Prelude.{◌≡◌, Bool, true, false, List, map, filter, Option, Some, None, is_none, if◌then◌else◌}, List.{list_any}, Option.{option_map}}
 use Rattle.std.specs.{declared.sync.Arc.{Arc}, declared.alloc.Global.{Global}}
-use Rattle.fb_jobs.specs.{declared.key.Key.{Key}, declared.value.Value.{Value}, KeyOrder.{same_key}, Reads.{PlainJob}}
+use Rattle.fb_jobs.specs.{declared.keys.key.Key.{Key}, declared.values.value.Value.{Value}, KeyOrder.{same_key}, Reads.{PlainJob}}
 use Rattle.fb_entries.specs.declared.entry.Entry.{Entry}
 
 -- whether the key is one of these

@@ -1,6 +1,6 @@
 -- What a commit does to the entries.
 use Rattle.std.specs.Prelude.{◌≡◌, ℕ, Bool, ◌&&◌, ◌||◌, not, List, None, is_none, if◌then◌else◌}
-use Rattle.fb_jobs.specs.{declared.key.Key.{Key}, Keys.{has_key}, Kinds.{all_keys}, Reach.{reaches}}
+use Rattle.fb_jobs.specs.{declared.keys.key.Key.{Key}, Keys.{has_key}, Kinds.{all_keys}, Reach.{reaches}}
 use Rattle.fb_index.specs.Library.Texts.{Texts}
 use Rattle.fb_entries.specs.{Keyed.{Keyed, can_take, entry_at}, Marking.{is_of, waiting_if, KeepsOtherEntries, HasEntries, LosesEntries, LosesKeys}}
 use Rattle.fb_entries.specs.declared.renewal.Renewal.{Renewal}

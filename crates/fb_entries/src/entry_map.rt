@@ -27,7 +27,7 @@ impl Drop for EntryMap {
 
 impl Model for EntryMap {
     ghost use Rattle.std.specs.{Prelude.{◌≡◌, List, count_by}, Map.{values_of}};
-    ghost use Rattle.fb_jobs.specs.declared.key.Key.{Key};
+    ghost use Rattle.fb_jobs.specs.declared.keys.key.Key.{Key};
     ghost use Rattle.fb_entries.specs.{declared.entry.Entry.{Entry}, Marking.{is_unkept}};
 
     ghost Value = { List (Key × Entry) };

@@ -1,7 +1,7 @@
 //! The keys of a library.
 ghost use Rattle.std.specs.Prelude.{◌≡◌, ◌++◌, ◌∷◌, [], if◌then◌else◌, filter, not, IfOk, OnOk};
 ghost use Rattle.fb_jobs.specs.{Keys.{has_key}, Kinds.{keys_near_and_far, keys_of_kind}};
-ghost use Rattle.fb_jobs.specs.declared.key.Kind.TheVariants as kind;
+ghost use Rattle.fb_jobs.specs.declared.keys.key.Kind.TheVariants as kind;
 
 use fb_index::library::Library;
 use fb_jobs::{Key, Kind, has_key, has_net_and_plan};

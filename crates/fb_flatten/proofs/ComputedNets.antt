@@ -7,9 +7,9 @@ use Rattle.fb_types.specs.declared.systems.Application.{Application}
 use Rattle.fb_types.specs.Units.{HasNet, has_net_tree, own_instances, AreFlatApplications, NoApplication, ThenApplication, Holds, IsUnitFlat, OfSubapplication, OfSystem}
 use Rattle.fb_types.specs.{Library.Seen.{has_name}, Tree.Mentions.{unit_kind_of}, Library.View.{Sources, parts_at, tree_at, tree_of}}
 use Rattle.fb_types.specs.{Library.Rests.{Rests, itself, PartRests, on_itself, through_part}, Library.Local.{AgreeFar}, Reaches.{IsRecursive}}
-use Rattle.fb_types.specs.{Network.declared.count.TheConstants.{INSTANCE_LIMIT}, Network.PlainFlat.{PlainFlat}, Network.LinkOrder.{link_cmp, link_cmp_total}}
+use Rattle.fb_types.specs.{Network.declared.flat.count.TheConstants.{INSTANCE_LIMIT}, Network.PlainFlat.{PlainFlat}, Network.LinkOrder.{link_cmp, link_cmp_total}}
 use Rattle.fb_types.specs.{Network.Network.{View}, Network.FlatNet.{IsFlat}, Network.Instances.{Held}, Network.SystemFlat.{IsSystemFlat, application_links}}
-use Rattle.fb_types.specs.{Network.declared.application.FlatApplication.{FlatApplication}, Applications.{applications_of}, ByName.{applications_at, declared}}
+use Rattle.fb_types.specs.{Network.declared.flat.application.FlatApplication.{FlatApplication}, Applications.{applications_of}, ByName.{applications_at, declared}}
 use Rattle.fb_types.specs.Networks.{network_of}
 use Rattle.fb_types.proofs.{Text.OrderLemmas.{in_order-sorted}, Library.Locality.{far_local, part_mention, parts_both, parts_rest, rests_more}}
 use Rattle.fb_types.proofs.Text.Members.{contains_nothing, contains_filter, passes_in_filter, contains_here, contains_later}

@@ -3,7 +3,7 @@ use Rattle.std.proofs.Common.{ℕ, ◌≡◌, ◌<◌, ◌≤◌, true, false, a
 use Rattle.std.proofs.{lemmas.List.{get_or_default, length-map}, lemmas.List.Elements.{Contains-push_cases}}
 use Rattle.std.specs.{Prelude.{Contains, map, option_map}, BTreeMap.{is_at}}
 use Rattle.fb_types.specs.{Text.Order.{name_cmp}, Tree.Tree.{DeclTree, subapplication_type, system_configuration}}
-use Rattle.fb_types.specs.{Tree.Mentions.{unit_kind_of}, Library.View.{Sources, parts_at, tree_at}, Network.declared.count.TheConstants.{INSTANCE_LIMIT}}
+use Rattle.fb_types.specs.{Tree.Mentions.{unit_kind_of}, Library.View.{Sources, parts_at, tree_at}, Network.declared.flat.count.TheConstants.{INSTANCE_LIMIT}}
 use Rattle.fb_types.specs.{Network.declared.network.InstanceKind.TheVariants.{Subapplication}, Network.declared.network.Instance.{Instance}}
 use Rattle.fb_types.specs.{Network.Plain.{PlainNetwork}, Network.Network.{View}}
 use Rattle.fb_types.specs.{Network.Instances.{Held, held_within, AreInstances, NoInstance, ThenBlock, ThenSubapplication}, ByName.{declared, kind_at}}

@@ -2,7 +2,7 @@
 use Rattle.std.proofs.{Common.{ℕ, ◌≡◌, ◌≤◌, arith, true, not, List, Option, Some, inl, sym, ◌∙◌, ap, subst}, lemmas.Bool.{and_parts, false≢true}}
 use Rattle.std.specs.{Prelude.{Contains, ◌≢◌, option_map}, Option.{option_or}, BTreeMap.{is_at}}
 use Rattle.fb_types.specs.{Text.Order.{name_cmp}, Tree.Tree.{TypeTree, subapplication_type}, Library.View.{Sources, tree_at}}
-use Rattle.fb_types.specs.{Network.declared.count.TheConstants.{INSTANCE_LIMIT}, Network.Plain.{PlainNetwork}, Network.PlainFlat.{PlainFlat}}
+use Rattle.fb_types.specs.{Network.declared.flat.count.TheConstants.{INSTANCE_LIMIT}, Network.Plain.{PlainNetwork}, Network.PlainFlat.{PlainFlat}}
 use Rattle.fb_types.specs.{Network.Instances.{Held, AreInstances}, Network.FlatNet.{IsFlat}, Counts.{IsCounted}, Network.Ready.{Nets}}
 use Rattle.fb_types.specs.{ByName.{declared, kind_at}, Networks.{network_of}, Units.{Holds, IsUnitFlat, IsWithinLimit, OfSubapplication}}
 use Rattle.fb_types.specs.Tree.declared.kinds.UnitKind.TheVariants as kinds

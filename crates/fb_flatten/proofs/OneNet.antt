@@ -3,7 +3,7 @@ use Rattle.std.proofs.Common.{ℕ, ◌≡◌, List, [], ◌∷◌, refl, sym, �
 use Rattle.std.specs.Cmp.Lexicographic.{nat_list_cmp_total}
 use Rattle.fb_types.specs.{Tree.Tree.{DeclTree}, Library.View.{Sources}, Network.Plain.{PlainNetwork}, Network.PlainFlat.{PlainFlat}, Network.Network.{View}}
 use Rattle.fb_types.specs.{Network.Instances.{Held, AreInstances}, Network.FlatNet.{IsFlat}, Network.SystemFlat.{IsSystemFlat}}
-use Rattle.fb_types.specs.{Network.declared.application.FlatApplication.{FlatApplication}, ByName.{declared}, declared.systems.Application.{Application}}
+use Rattle.fb_types.specs.{Network.declared.flat.application.FlatApplication.{FlatApplication}, ByName.{declared}, declared.systems.Application.{Application}}
 use Rattle.fb_types.specs.Units.{AreFlatApplications, NoApplication, ThenApplication, Holds, IsTooLarge, IsWithinLimit, IsUnitFlat, OfSubapplication, OfSystem, own_instances}
 use Rattle.fb_types.proofs.{Network.BlockLemmas.{same_instances}, Network.OneFlat.{same_flat}, Network.SystemLemmas.{same_system}, Network.SameSorted.{same_sorted}}
 use Rattle.fb_flatten.specs.{Blocking.{AreThose}, Net.{PlainNet, blocked, recursive, too_large, flat_net, IsNet}, Laws.{OneNet}}

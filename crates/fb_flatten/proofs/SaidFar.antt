@@ -3,7 +3,7 @@ use Rattle.std.proofs.Common.{ℕ, ◌≡◌, List, sym, ◌∙◌, ◌++◌, su
 use Rattle.std.specs.Prelude.{Contains}
 use Rattle.fb_types.specs.{Library.View.{Sources, mentions_at, parts_at, tree_at}, Library.Rests.{Rests, itself, through}}
 use Rattle.fb_types.specs.{Reaches.{IsRecursive, Reaches, directly, onward}, Network.PlainFlat.{PlainFlat}, Network.Instances.{Held}}
-use Rattle.fb_types.specs.{Network.declared.application.FlatApplication.{FlatApplication}, ByName.{declared}, Local.{HasSameInterface}}
+use Rattle.fb_types.specs.{Network.declared.flat.application.FlatApplication.{FlatApplication}, ByName.{declared}, Local.{HasSameInterface}}
 use Rattle.fb_types.specs.{Network.Plain.{PlainNetwork}, declared.systems.Application.{Application}}
 use Rattle.fb_types.specs.Units.{AreFlatApplications, NoApplication, ThenApplication, Holds, IsTooLarge, IsWithinLimit, IsUnitFlat, OfSubapplication, OfSystem}
 use Rattle.fb_types.proofs.{Library.Locality.{part_mention, rests_more}, Text.Members.{contains_here, contains_later}}

@@ -1,6 +1,6 @@
 -- Nets of units that others rest on.
 use Rattle.std.specs.Prelude.{ℕ, ◌≡◌, ◌≤◌, List, Option, Some}
-use Rattle.fb_types.specs.{Library.View.{Sources}, Library.Rests.{Rests}, Network.declared.count.TheConstants.{INSTANCE_LIMIT}, Network.PlainFlat.{PlainFlat}}
+use Rattle.fb_types.specs.{Library.View.{Sources}, Library.Rests.{Rests}, Network.declared.flat.count.TheConstants.{INSTANCE_LIMIT}, Network.PlainFlat.{PlainFlat}}
 use Rattle.fb_types.specs.Network.Ready.{Nets}
 use Rattle.fb_flatten.specs.{Net.{flat_net, plain_net}, Nets.{net_at}, declared.inner.Inner.{Inner}}
 

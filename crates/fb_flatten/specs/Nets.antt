@@ -3,12 +3,12 @@ use Rattle.std.specs.Prelude.{◌≡◌, ℕ, zero, suc, Bool, true, if◌then�
 use Rattle.std.specs.List.{flat_map, list_any}
 use Rattle.fb_types.specs.{Text.Order.{in_order}, Tree.Tree.{DeclTree, block_type, adapter_type, subapplication_type, system_configuration, structure_type}}
 use Rattle.fb_types.specs.{Library.View.{Sources, parts_at, tree_at}, Library.Local.{AgreeFar}, Library.Seen.{has_name}}
-use Rattle.fb_types.specs.{Network.declared.count.TheConstants.{INSTANCE_LIMIT}, Network.declared.network.InstanceKind.{InstanceKind}}
+use Rattle.fb_types.specs.{Network.declared.flat.count.TheConstants.{INSTANCE_LIMIT}, Network.declared.network.InstanceKind.{InstanceKind}}
 use Rattle.fb_types.specs.{Network.declared.network.InstanceKind.TheVariants.{Block, Subapplication}, Network.declared.network.Instance.{Instance}}
 use Rattle.fb_types.specs.{Network.Plain.{PlainNetwork}, Network.PlainFlat.{PlainFlat}, Network.LinkOrder.{link_cmp, border_cmp}}
 use Rattle.fb_types.specs.{Network.Network.{View, instance_named}, Network.Instances.{Held, held_as, held_within}}
 use Rattle.fb_types.specs.{Network.Composed.{composed_blocks, composed_borders, composed_links}, Network.Ready.{Nets}}
-use Rattle.fb_types.specs.{Network.SystemFlat.{application_blocks, application_links}, Network.declared.application.FlatApplication.{FlatApplication}}
+use Rattle.fb_types.specs.{Network.SystemFlat.{application_blocks, application_links}, Network.declared.flat.application.FlatApplication.{FlatApplication}}
 use Rattle.fb_types.specs.{Applications.{applications_of}, ByName.{declared}, Networks.{network_of}, declared.systems.Application.{Application}}
 use Rattle.fb_flatten.specs.{Blocking.{is_blocking, is_part_among}, Net.{PlainNet, blocked, recursive, too_large, flat_net, IsNet}, Far.{far_of, part_far_of}}
 pub use Rattle.fb_types.specs.Units.{HasNet, has_net_tree, has_net_in, own_instances}

@@ -1,7 +1,7 @@
 -- What holds after any calls.
 use Rattle.std.proofs.Common.{◌≡◌, ℕ, Bool, true, false, ◌||◌, ◌&&◌, not, List, [], ◌∷◌, refl, sym, ap, ◌∙◌, subst, cond}
 use Rattle.std.specs.{List.{list_any}, BTreeMap.{is_at}, List.Sorted.{IsStrictlySortedBy}}
-use Rattle.fb_jobs.specs.{Library.Texts.{Texts, Edit}, declared.key.Key.{Key}, Keys.{has_key, scratch, needs, Finding}, Reads.{is_among, Agree}}
+use Rattle.fb_jobs.specs.{Library.Texts.{Texts, Edit}, declared.keys.key.Key.{Key}, Keys.{has_key, scratch, needs, Finding}, Reads.{is_among, Agree}}
 use Rattle.fb_jobs.proofs.{SameNeeds.{needs_local}, Library.Names.{exact_name}}
 use Rattle.fb_history.specs.declared.answers.Committed.{Committed}
 use Rattle.fb_history.specs.declared.answers.Committed.TheVariants.{Done, NoChange, TooManyChanges, SameUnitTwice, StaleBase, NoSuchUnit, TooManyUnits}

@@ -1,6 +1,6 @@
 -- The machine's pending keys are those that are due.
 use Rattle.std.proofs.Common.{◌≡◌, ℕ, Bool, true, false, ◌||◌, ◌&&◌, not, List, [], ◌∷◌, map, refl, sym, ap, ◌∙◌, subst, Option, Some, None, cond, is_none}
-use Rattle.fb_jobs.specs.{Library.Texts.{Edit, unit_of, all_edited}, declared.key.Key.{Key}, Keys.{has_key}, KeyOrder.{same_key}, Reads.{stale}}
+use Rattle.fb_jobs.specs.{Library.Texts.{Edit, unit_of, all_edited}, declared.keys.key.Key.{Key}, Keys.{has_key}, KeyOrder.{same_key}, Reads.{stale}}
 use Rattle.fb_history.specs.declared.answers.Committed.{Committed}
 use Rattle.fb_history.specs.declared.answers.Committed.TheVariants.{Done, NoChange, TooManyChanges, SameUnitTwice, StaleBase, NoSuchUnit, TooManyUnits}
 use Rattle.fb_history.specs.declared.answers.GivenBack.TheVariants.{Returned, NothingOut}

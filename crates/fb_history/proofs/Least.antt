@@ -3,7 +3,7 @@ use Rattle.std.proofs.Common.{◌≡◌, ℕ, Bool, true, false, ◌||◌, ◌&&
 use Rattle.std.proofs.lemmas.Bool.{or_left, or_right}
 use Rattle.std.specs.{List.{list_any}, BTreeMap.{is_at}, Ordering.{is_eq, is_lt, is_gt, ordering_reverse}, declared.cmp.Ordering.{Ordering}}
 use Rattle.std.specs.{declared.cmp.Ordering.TheVariants.{Less, Equal, Greater}, Option.{option_map}}
-use Rattle.fb_jobs.specs.{Library.Texts.{Texts, held, names_of, text_in}, Reads.{is_among}, declared.key.Key.{Key}, Keys.{has_key, has_kind_at}}
+use Rattle.fb_jobs.specs.{Library.Texts.{Texts, held, names_of, text_in}, Reads.{is_among}, declared.keys.key.Key.{Key}, Keys.{has_key, has_kind_at}}
 use Rattle.fb_jobs.specs.{KeyOrder.{key_cmp, key_cmp_total, same_key}, Kinds.{all_keys}}
 use Rattle.fb_text.specs.Order.{name_cmp}
 use Rattle.fb_history.specs.Machine.{State, is_ready, keys_of, least, lesser, next}

@@ -2,7 +2,7 @@
 use Rattle.std.proofs.Common.{◌≡◌, ℕ, ◌-◌, Bool, true, false, ◌||◌, ◌&&◌, not, List, [], ◌∷◌, filter, map, Option, Some, None, refl, sym, ap, ◌∙◌, subst, arith, zero, suc}
 use Rattle.std.proofs.lemmas.Bool.{and_parts, and_right}
 use Rattle.std.specs.List.{list_any}
-use Rattle.fb_jobs.specs.{Library.Texts.{Edit, all_edited, unit_of}, declared.key.Key.{Key}, Keys.{has_key}, KeyOrder.{same_key}}
+use Rattle.fb_jobs.specs.{Library.Texts.{Edit, all_edited, unit_of}, declared.keys.key.Key.{Key}, Keys.{has_key}, KeyOrder.{same_key}}
 use Rattle.fb_jobs.proofs.{Members.{of_filtered}, Order.{keys_equal}}
 use Rattle.fb_history.specs.declared.answers.Committed.{Committed}
 use Rattle.fb_history.specs.declared.answers.Committed.TheVariants.{Done, NoChange, TooManyChanges, SameUnitTwice, StaleBase, NoSuchUnit, TooManyUnits}

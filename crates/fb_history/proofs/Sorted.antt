@@ -3,7 +3,7 @@ use Rattle.std.proofs.{Common.{◌≡◌, ℕ, true, false, List, [], ◌∷◌,
 use Rattle.std.specs.{List.{AllByRecursion}, List.Sorted.{IsStrictlySortedBy}, Map.{remove_entry}, BTreeMap.{is_at, insert_entry}}
 use Rattle.std.specs.{Ordering.{match_ordering, ordering_reverse}, declared.cmp.Ordering.TheVariants.{Less, Equal, Greater}}
 use Rattle.fb_jobs.proofs.{Library.Names.{name_total}, KindLemmas.{all_keys_rise}}
-use Rattle.fb_jobs.specs.{Library.Texts.{Texts, Held, Edit, Puts, Removes, edited, all_edited, names_of}, declared.key.Key.{Key}, Keys.{has_key}}
+use Rattle.fb_jobs.specs.{Library.Texts.{Texts, Held, Edit, Puts, Removes, edited, all_edited, names_of}, declared.keys.key.Key.{Key}, Keys.{has_key}}
 use Rattle.fb_jobs.specs.{KeyOrder.{key_cmp}, Kinds.{all_keys}}
 use Rattle.fb_text.specs.Order.{name_cmp}
 use Rattle.fb_history.specs.declared.answers.Committed.{Committed}

@@ -4,7 +4,7 @@ use Rattle.fb_history.specs.{declared.answers.GivenBack.{GivenBack}, declared.an
 use Rattle.fb_history.specs.declared.answers.GivenBack.TheVariants.{Returned, NothingOut}
 use Rattle.fb_history.specs.Machine.{State, Call, Reply, after, reply, ToAsk, OfAsk, shown, ToTake, OfTake, taken, next, after_take, plain_job_for, ToDeliver, OfDeliver, deliver_answer, after_deliver, ToGiveBack, OfGiveBack, give_back_answer, after_give_back, removed, ToCommit, OfCommit, commit_answer, after_commit}
 use Rattle.fb_history.specs.BenchView.{Record, BenchView, opened, replay, replies, calls_of, state_of, recorded, logged, record_after, record_of, IsReplay}
-use Rattle.fb_jobs.specs.{Library.Texts.{Texts, Edit}, declared.key.Key.{Key}, Reads.{PlainJob, Seen}}
+use Rattle.fb_jobs.specs.{Library.Texts.{Texts, Edit}, declared.keys.key.Key.{Key}, Reads.{PlainJob, Seen}}
 
 pub replay_more : (s : State) (calls : List Call) (call : Call) → replay s (calls ++ call ∷ []) ≡ after (replay s calls) call
 unfolding replay

@@ -2,7 +2,7 @@
 use Rattle.std.specs.Prelude.{◌≡◌, ℕ, ◌+◌, ◌-◌, ◌≤◌, false, List, [], ◌∷◌, ◌++◌, map, ◌==◌, count_by, take, length, slice_get, Option, Some, None, unwrap_or, zero, suc}
 use Rattle.std.specs.{BTreeMap.{insert_entry, is_at}, List.Sorted.{IsStrictlySortedBy}, Map.{lookup}, Ordering.{nat_cmp}, List.{list_any}}
 use Rattle.fb_text.specs.Order.{name_cmp}
-use Rattle.fb_jobs.specs.{Library.Texts.{Texts, names_of}, declared.key.Key.{Key}, Keys.{has_key}, KeyOrder.{same_key}}
+use Rattle.fb_jobs.specs.{Library.Texts.{Texts, names_of}, declared.keys.key.Key.{Key}, Keys.{has_key}, KeyOrder.{same_key}}
 use Rattle.fb_history.specs.Machine.{State, Call, Reply, after, reply}
 
 -- one recorded call with its answer. `turn` counts the caller's calls up to this one

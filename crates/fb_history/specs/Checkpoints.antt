@@ -1,6 +1,6 @@
 -- A history that begins again from the state to which it has led.
 use Rattle.std.specs.Prelude.{◌≡◌, ℕ, ◌+◌, ◌^◌, List, [], filter, length, None, Result, Ok, Err, if◌then◌else◌, nat_lt}
-use Rattle.fb_jobs.specs.{Library.Texts.{Texts}, declared.key.Key.{Key}}
+use Rattle.fb_jobs.specs.{Library.Texts.{Texts}, declared.keys.key.Key.{Key}}
 use Rattle.fb_history.specs.{Events.{last_event_of}, Limits.{Bounds}, Machine.{keys_of}, BenchView.{BenchView, all_turns, last_number, pages_after, record_numbered, state_of}}
 use Rattle.fb_history.specs.{declared.answers.CheckpointRefused.{CheckpointRefused}, declared.answers.CheckpointRefused.TheVariants.{UnitsOver, NumbersOver, Memory}}
 

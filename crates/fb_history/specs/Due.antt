@@ -1,6 +1,6 @@
 -- When a key waits, by places in the list of calls.
 use Rattle.std.specs.Prelude.{Bool, false, ◌&&◌, ◌||◌, not, List, [], ◌∷◌, map, is_none}
-use Rattle.fb_jobs.specs.{Library.Texts.{Edit, unit_of, all_edited}, declared.key.Key.{Key}, Keys.{has_key}, KeyOrder.{same_key}, Reads.{stale}}
+use Rattle.fb_jobs.specs.{Library.Texts.{Edit, unit_of, all_edited}, declared.keys.key.Key.{Key}, Keys.{has_key}, KeyOrder.{same_key}, Reads.{stale}}
 use Rattle.fb_history.specs.{declared.answers.Committed.{Committed}, declared.answers.Committed.TheVariants.{Done}}
 use Rattle.fb_history.specs.{Machine.{State, Call, ToCommit, ToDeliver, commit_answer, reaches, after}, BenchView.{BenchView, opened, state_of, calls_of}}
 

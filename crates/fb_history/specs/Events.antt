@@ -1,6 +1,6 @@
 -- Records as events for those who watch.
 use Rattle.std.specs.{Prelude.{ℕ, ◌+◌, Bool, true, false, List, [], ◌∷◌, Option, Some, None, is_some, option_map, if◌then◌else◌}, List.{filter_map}}
-use Rattle.fb_jobs.specs.{Library.Texts.{Edit, Puts, Removes}, declared.key.Key.{Key}}
+use Rattle.fb_jobs.specs.{Library.Texts.{Edit, Puts, Removes}, declared.keys.key.Key.{Key}}
 use Rattle.fb_history.specs.{Machine.{Call, ToCommit, ToTake, ToDeliver, ToGiveBack, ToAsk, Reply, OfCommit, OfDeliver}, BenchView.{Record, BenchView}}
 use Rattle.fb_history.specs.{declared.answers.Committed.TheVariants.{Done}, declared.answers.Delivered.TheVariants.{Accepted}}
 

@@ -1,6 +1,6 @@
 -- What holds of a workbench after any calls.
 use Rattle.std.specs.Prelude.{◌≡◌, ℕ, Bool, true, false, not, List, if◌then◌else◌}
-use Rattle.fb_jobs.specs.{Library.Texts.{Texts}, declared.key.Key.{Key}, Keys.{has_key, scratch}}
+use Rattle.fb_jobs.specs.{Library.Texts.{Texts}, declared.keys.key.Key.{Key}, Keys.{has_key, scratch}}
 use Rattle.fb_history.specs.declared.answers.Committed.{Committed}
 use Rattle.fb_history.specs.declared.answers.Committed.TheVariants.{Done, NoChange, TooManyChanges, SameUnitTwice, StaleBase, NoSuchUnit, TooManyUnits}
 use Rattle.fb_history.specs.Machine.{State, Call, Reply, OfCommit, OfTake, OfDeliver, OfGiveBack, OfAsk, Shown, Finds, Waits, Unknown, shown, reply, after, reaches}

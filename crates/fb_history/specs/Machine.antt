@@ -1,7 +1,7 @@
 -- The workbench as a machine: its states, its calls, and what each call answers and leaves.
 use Rattle.std.specs.Prelude.{ℕ, ◌+◌, Bool, ◌&&◌, ◌||◌, not, List, [], ◌∷◌, map, filter, length, Option, Some, None, if◌then◌else◌, nat_lt, ◌==◌}
 use Rattle.std.specs.Ordering.{is_lt}
-use Rattle.fb_jobs.specs.{Library.Texts.{Texts, Held, held, Edit, Puts, Removes, unit_of, all_edited}, declared.key.Key.{Key}, Keys.{has_key, scratch, Finding}}
+use Rattle.fb_jobs.specs.{Library.Texts.{Texts, Held, held, Edit, Puts, Removes, unit_of, all_edited}, declared.keys.key.Key.{Key}, Keys.{has_key, scratch, Finding}}
 use Rattle.fb_jobs.specs.{KeyOrder.{key_cmp, same_key}, Reads.{PlainJob, reads_for, stale}}
 pub use Rattle.fb_jobs.specs.Reach.{keys_of, reaches, comes_again, first_repeated}
 use Rattle.fb_history.specs.declared.answers.Committed.{Committed}

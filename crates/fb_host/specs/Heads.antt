@@ -1,14 +1,21 @@
 -- What a connection sends first.
-use Rattle.std.specs.Prelude.{◌≡◌, ◌≤◌, ◌<◌, ℕ, List, length, slice_index_or}
+use Rattle.std.specs.Prelude.{◌≡◌, ◌==◌, ◌||◌, ◌+◌, ◌++◌, ℕ, Bool, List, Some, length, not, slice_get}
+use Rattle.std.specs.List.{position}
 
--- a letter from A to Z
-abbrev pub IsCapital : ℕ → Type 0
-IsCapital byte = (65 ≤ byte) × (byte ≤ 90)
+-- a space, a tab, or an end of a line
+abbrev pub is_blank : ℕ → Bool
+is_blank byte = (byte == 32) || ((byte == 9) || ((byte == 10) || (byte == 13)))
 
--- a word of this number of capitals, and a blank after it
-abbrev pub IsWordOf : ℕ → List ℕ → Type 0
-IsWordOf n bytes = (n < length bytes) × (slice_index_or bytes n 0 ≡ 32) × ((k : ℕ) → k < n → IsCapital (slice_index_or bytes k 0))
+abbrev pub is_mark : ℕ → Bool
+is_mark byte = not (is_blank byte)
 
--- how a request of HTTP begins
-abbrev pub SpeaksHttp : List ℕ → Type 0
-SpeaksHttp bytes = (n : ℕ) × (1 ≤ n) × IsWordOf n bytes
+-- the first byte that is no blank is a {
+abbrev pub BeginsRequest : List ℕ → Type 0
+BeginsRequest bytes = (n : ℕ) × (position is_mark bytes ≡ Some n) × (slice_get bytes n ≡ Some 123)
+
+abbrev pub is_feed : ℕ → Bool
+is_feed byte = byte == 10
+
+-- the line is the bytes up to their first line feed, and it; the rest is what comes after it
+abbrev pub IsFirstLine : (bytes line rest : List ℕ) → Type 0
+IsFirstLine bytes line rest = (n : ℕ) × (position is_feed bytes ≡ Some n) × (length line ≡ n + 1) × (bytes ≡ line ++ rest)

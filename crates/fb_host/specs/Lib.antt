@@ -1,3 +1,5 @@
 pub mod HostSessions
 pub mod Heads
+pub mod Pace
+pub mod Replies
 pub mod Short

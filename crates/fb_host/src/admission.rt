@@ -1,8 +1,11 @@
 //! Admission: the first line of a connection, and whether it gets a seat.
+ghost use Rattle.std.specs.Prelude.{◌≤◌, IfSome, length};
+
 use crate::connection::Connection;
-use crate::connection_queue::ConnectionQueue;
-use crate::head::{is_secret, speaks_http};
+use crate::head::{begins_request, first_mark, take_proof};
 use crate::threads::HostState;
+use fb_secret::{challenge, challenge_line};
+use std::alloc::Global;
 use std::io::{Read, Write};
 use std::net::{Shutdown, TcpStream};
 use std::sync::Wait;
@@ -16,19 +19,37 @@ const NO_SEAT: &[u8] = b"{\"refused\":\"NoSeat\"}\n";
 /// How many milliseconds a connection that is refused may take to read why.
 const REFUSAL_TIMEOUT: u64 = 200;
 
+/// How often it is read from a connection that is refused, so that nothing unread takes the answer away.
+const REFUSAL_READS: u32 = 64;
+
+/// Why a connection gets no seat.
+#[derive(Clone, Copy, PartialEq, Eq)]
+enum Turned {
+    /// Its first line did not come in time, it had to give way, or it had gone before it was asked for the secret.
+    Late,
+    /// Its first line does not prove the secret.
+    WrongSecret,
+    /// It does not begin with a request.
+    Foreign,
+    /// No seat is free.
+    NoSeat,
+}
+
 /// A thread of admission: it looks at the first lines of connections, one after another.
-pub(crate) fn admit_connections<R: Wait + Clock>(rt: &R, host: &HostState, secret: &[u8]) {
+pub(crate) fn admit_connections<R: Wait + Clock>(
+    rt: &R,
+    alloc: Global,
+    host: &HostState,
+    secret: &[u8],
+) {
     for _ in rt.forever() {
         let Some(connection) = host.admission.next(rt) else {
             return;
         };
-        admit(
-            rt,
-            connection,
-            &host.seats,
-            secret,
-            Duration::from_millis(host.first_line_timeout),
-        );
+        if let Err(turned) = admit(rt, alloc, connection, host, secret) {
+            host.notices
+                .count_turned_away(rt, turned == Turned::WrongSecret);
+        }
         host.admission.add_idle(rt);
     }
     // `forever` never ends.
@@ -38,97 +59,170 @@ pub(crate) fn admit_connections<R: Wait + Clock>(rt: &R, host: &HostState, secre
 /// Lets a connection in, if its first line is right and a seat is free.
 fn admit<R: Wait + Clock>(
     rt: &R,
+    alloc: Global,
     connection: Connection,
-    seats: &ConnectionQueue,
+    host: &HostState,
     secret: &[u8],
-    first_line_timeout: Duration,
-) {
+) -> Result<(), Turned> {
     let mut connection = connection;
-    if secret.is_empty() && !seats.has_idle(rt) {
-        refuse(&connection.stream);
-        return;
+    if secret.is_empty() && host.seats.idle(rt) == 0 {
+        host.waiting.leave(rt, connection.number);
+        refuse(rt, &connection.stream);
+        return Err(Turned::NoSeat);
     }
-    if !has_head(rt, &mut connection, first_line_timeout) {
-        return;
+    let challenge = sent_challenge(alloc, &connection, host, secret);
+    let has_head = challenge.is_some() && has_head(rt, &mut connection, host, secret);
+    let has_stayed = host.waiting.leave(rt, connection.number);
+    let Some(challenge) = challenge else {
+        return Err(Turned::Late);
+    };
+    if !has_head || !has_stayed {
+        return Err(Turned::Late);
     }
-    if !is_admitted(&mut connection.head, secret) {
-        return;
+    takes_head(alloc, &mut connection, secret, challenge.as_bytes())?;
+    if let Some(connection) = host.seats.offer(rt, connection) {
+        refuse(rt, &connection.stream);
+        return Err(Turned::NoSeat);
     }
-    if let Some(connection) = seats.offer(rt, connection) {
-        refuse(&connection.stream);
-    }
+    Ok(())
 }
 
-/// Whether the head is admitted: by the secret in its first line, or, if there is none, since it is not HTTP.
-fn is_admitted(head: &mut Vec<u8>, secret: &[u8]) -> bool {
+/// The challenge that was sent to the connection, which is empty without a secret. None if it was not sent.
+fn sent_challenge(
+    alloc: Global,
+    connection: &Connection,
+    host: &HostState,
+    secret: &[u8],
+) -> Option<String> {
     if secret.is_empty() {
-        return !speaks_http(head);
+        return Some(String::new(alloc));
     }
-    takes_secret(head, secret)
+    let challenge = challenge(alloc, &host.config.challenge_key, connection.challenge).ok()?;
+    let line = challenge_line(alloc, challenge.as_bytes()).ok()?;
+    let mut stream = &connection.stream;
+    stream.write_all(&line).ok()?;
+    Some(challenge)
 }
 
-/// Says that there is no seat.
-fn refuse(stream: &TcpStream) {
+/// Whether the head lets the connection in: by the proof in its first line, which is then taken off and answered, or, if there is no secret, by how its first
+/// request begins.
+fn takes_head(
+    alloc: Global,
+    connection: &mut Connection,
+    secret: &[u8],
+    challenge: &[u8],
+) -> Result<(), Turned> {
+    if secret.is_empty() {
+        return if begins_request(&connection.head) {
+            Ok(())
+        } else {
+            Err(Turned::Foreign)
+        };
+    }
+    let Some(answer) = take_proof(alloc, &mut connection.head, secret, challenge) else {
+        return Err(Turned::WrongSecret);
+    };
+    let mut stream = &connection.stream;
+    match stream.write_all(&answer) {
+        Ok(()) => Ok(()),
+        Err(_) => Err(Turned::Late),
+    }
+}
+
+/// Says that there is no seat, and reads what the peer has still sent.
+fn refuse<R: Clock>(rt: &R, stream: &TcpStream) {
     let mut out = stream;
     let _ = out.write_all(NO_SEAT);
     let _ = stream.shutdown(Shutdown::Write);
-    let _ = stream.set_read_timeout(Some(Duration::from_millis(REFUSAL_TIMEOUT)));
-    let mut rest = [0; 1_024];
-    let _ = out.read(&mut rest);
-}
-
-/// Whether the head's first line is the secret. It is then taken off.
-fn takes_secret(head: &mut Vec<u8>, secret: &[u8]) -> bool {
-    let Some(end) = head.iter().position(|byte| *byte == b'\n') else {
-        return false;
+    let Ok(begun) = Instant::now(rt) else {
+        return;
     };
-    if !is_secret(&head[..end], secret) {
-        return false;
+    let mut rest = [0; 1_024];
+    for _ in 0..REFUSAL_READS {
+        let timeout = Duration::from_millis(REFUSAL_TIMEOUT);
+        match read_until(rt, stream, begun, timeout, &mut rest) {
+            Some(0) | None => return,
+            Some(_) => {}
+        }
     }
-    head.drain(..end + 1);
-    true
 }
 
-/// Reads until the first line, the end of the input or `FIRST_LINE_SIZE` bytes have come. False if none of these came in time.
-fn has_head<R: Clock>(rt: &R, connection: &mut Connection, first_line_timeout: Duration) -> bool {
+/// Whether enough was read to check the connection: its first line, or, if there is no secret, the line of its first request, or another first byte.
+fn is_enough(head: &[u8], secret: &[u8]) -> bool {
+    if FIRST_LINE_SIZE <= head.len() {
+        return true;
+    }
+    if !secret.is_empty() {
+        return head.contains(&b'\n');
+    }
+    match first_mark(head) {
+        Some(place) => {
+            !begins_request(head) || head.iter().skip(place).any(|byte| *byte == b'\n')
+        }
+        None => false,
+    }
+}
+
+/// Reads until enough has come, the input ends, or `FIRST_LINE_SIZE` bytes have come. False if none of these came in time.
+fn has_head<R: Wait + Clock>(
+    rt: &R,
+    connection: &mut Connection,
+    host: &HostState,
+    secret: &[u8],
+) -> bool {
     let Ok(begun) = Instant::now(rt) else {
         return false;
     };
+    let timeout = Duration::from_millis(host.config.first_line_timeout);
     let mut buffer = [0; 1_024];
     for _ in 0..FIRST_LINE_SIZE {
-        if connection.head.contains(&b'\n') || FIRST_LINE_SIZE <= connection.head.len() {
+        if is_enough(&connection.head, secret) {
             return true;
         }
-        match read_within(rt, connection, begun, first_line_timeout, &mut buffer) {
+        match read_head(rt, connection, begun, timeout, &mut buffer) {
             Some(0) => return true,
-            Some(_) => {}
+            Some(_) => host.waiting.begin(rt, connection.number),
             None => return false,
         }
     }
     false
 }
 
-/// Reads once, if there is time left.
-fn read_within<R: Clock>(
+/// Reads once into the head, if there is time left.
+fn read_head<R: Clock>(
     rt: &R,
     connection: &mut Connection,
     begun: Instant,
-    first_line_timeout: Duration,
+    timeout: Duration,
     buffer: &mut [u8],
 ) -> Option<usize> {
-    let Ok(passed) = begun.elapsed(rt) else {
-        return None;
-    };
-    let left = first_line_timeout.saturating_sub(passed);
-    if left.is_zero() || connection.stream.set_read_timeout(Some(left)).is_err() {
-        return None;
-    }
-    let mut stream = &connection.stream;
-    let Ok(count) = stream.read(buffer) else {
-        return None;
-    };
+    let count = read_until(rt, &connection.stream, begun, timeout, buffer)?;
     match connection.head.extend_from_slice(&buffer[..count]) {
         Ok(()) => Some(count),
         Err(_) => None,
     }
+}
+
+/// Reads once, if not all of the time since then has passed.
+fn read_until<R: Clock>(
+    rt: &R,
+    stream: &TcpStream,
+    begun: Instant,
+    timeout: Duration,
+    buffer: &mut [u8],
+) -> Option<usize>
+    ensures { IfSome result (λ count. count ≤ length buffer.new) }
+{
+    let Ok(passed) = begun.elapsed(rt) else {
+        return None;
+    };
+    let left = timeout.saturating_sub(passed);
+    if left.is_zero() || stream.set_read_timeout(Some(left)).is_err() {
+        return None;
+    }
+    let mut stream = stream;
+    let Ok(count) = stream.read(buffer) else {
+        return None;
+    };
+    Some(count)
 }

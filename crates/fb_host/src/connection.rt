@@ -4,17 +4,21 @@ use std::io;
 use std::io::{ErrorKind, Read};
 use std::net::TcpStream;
 
-/// A connection, and the bytes that were read of it and not yet passed on.
+/// A connection, its number in the waiting room, that of its challenge, and the bytes that were read of it and not yet passed on.
 #[derive(Drop)]
 pub(crate) struct Connection {
     pub(crate) stream: TcpStream,
+    pub(crate) number: u64,
+    pub(crate) challenge: u64,
     pub(crate) head: Vec<u8>,
 }
 
 impl Connection {
-    pub(crate) fn new(alloc: Global, stream: TcpStream) -> Connection {
+    pub(crate) fn new(alloc: Global, stream: TcpStream, number: u64, challenge: u64) -> Connection {
         Connection {
             stream,
+            number,
+            challenge,
             head: Vec::new(alloc),
         }
     }

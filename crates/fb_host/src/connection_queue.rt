@@ -5,10 +5,12 @@ use crate::connection::Connection;
 use std::alloc::Global;
 use std::sync::{Condvar, Mutex, Wait};
 
-/// Connections for threads that wait for them. One is taken in only if a thread is free, so it never holds more than there are threads.
+/// Connections for threads that wait for them. One is taken in only if a thread is free, so it never holds more than there are threads, and only up to a
+/// number of all. `freed` wakes who waits for a free thread.
 pub(crate) struct ConnectionQueue {
     state: Mutex<QueueState>,
     changed: Condvar,
+    freed: Condvar,
 }
 
 impl Drop for ConnectionQueue {
@@ -16,15 +18,17 @@ impl Drop for ConnectionQueue {
         let Self {
             state: _,
             changed: _,
+            freed: _,
         } = self;
     }
 }
 
-/// The connections that no thread has taken yet, and how many threads are free beyond those that will take these.
+/// The connections that no thread has taken yet, how many threads are free beyond those that will take these, and how many connections are left to take in.
 #[derive(Drop)]
 struct QueueState {
     connections: Vec<Connection>,
     idle: u64,
+    left: u64,
     closed: bool,
 }
 
@@ -33,15 +37,21 @@ impl QueueState {
     fn put(&mut self, connection: Connection) -> Option<Connection>
         ensures taken { result ≡ None
             → (self.new.idle + 1 ≡ self.old.idle)
+            × (self.new.left + 1 ≡ self.old.left)
             × (length self.new.connections.items ≡ length self.old.connections.items + 1) }
         ensures back { IfSome result (λ _.
             (self.new.idle ≡ self.old.idle)
+            × (self.new.left ≡ self.old.left)
             × (length self.new.connections.items ≡ length self.old.connections.items)) }
     {
-        if self.closed || self.idle == 0 || self.connections.reserve(1).is_err() {
+        if self.closed || self.idle == 0 || self.left == 0 {
+            return Some(connection);
+        }
+        if self.connections.reserve(1).is_err() {
             return Some(connection);
         }
         self.idle -= 1;
+        self.left -= 1;
         self.connections.push_reserved(connection);
         None
     }
@@ -52,20 +62,22 @@ impl QueueState {
 }
 
 impl ConnectionQueue {
-    /// For this number of threads, which are free.
-    pub(crate) fn new(alloc: Global, threads: u64) -> ConnectionQueue {
+    /// For this number of threads, which are free, and for this number of connections.
+    pub(crate) fn new(alloc: Global, threads: u64, most: u64) -> ConnectionQueue {
         let waiting = QueueState {
             connections: Vec::new(alloc),
             idle: threads,
+            left: most,
             closed: false,
         };
         ConnectionQueue {
             state: Mutex::new(waiting),
             changed: Condvar::new(),
+            freed: Condvar::new(),
         }
     }
 
-    /// Takes a connection in, or gives it back if no thread is free.
+    /// Takes a connection in, or gives it back if no thread is free or none is left to take in.
     pub(crate) fn offer<R: Wait>(&self, rt: &R, connection: Connection) -> Option<Connection> {
         let back = self.state.lock(rt).put(connection);
         if back.is_none() {
@@ -74,14 +86,26 @@ impl ConnectionQueue {
         back
     }
 
-    /// Whether a thread is free.
-    pub(crate) fn has_idle<R: Wait>(&self, rt: &R) -> bool {
-        0 < self.state.lock(rt).idle
+    /// How many threads are free.
+    pub(crate) fn idle<R: Wait>(&self, rt: &R) -> u64 {
+        self.state.lock(rt).idle
+    }
+
+    /// How many connections are left to take in.
+    pub(crate) fn left<R: Wait>(&self, rt: &R) -> u64 {
+        self.state.lock(rt).left
     }
 
     /// A thread that had a connection is free again.
     pub(crate) fn add_idle<R: Wait>(&self, rt: &R) {
         self.state.lock(rt).add_idle();
+        self.freed.notify_all();
+    }
+
+    /// Waits until a thread is free.
+    pub(crate) fn wait_idle<R: Wait>(&self, rt: &R) {
+        let state = self.state.lock(rt);
+        drop(self.freed.wait_while(rt, state, |state| state.idle == 0));
     }
 
     /// Waits for a connection. None if no further one comes.

@@ -5,8 +5,12 @@ ghost use Rattle.fb_serve.specs.{Lines.{SaysLines}, Shown.{ShowsAll}};
 
 use crate::close::close;
 use crate::connection_queue::ConnectionQueue;
+use crate::leases::Leases;
+use crate::notices::Notices;
+use crate::pace::Pace;
 use crate::receipt_store::ReceiptStore;
-use crate::threads::{ADMISSION_THREADS, HostState, run_threads};
+use crate::threads::{ADMISSION_THREADS, HostState, Seats, run_threads};
+use crate::waiting_room::WaitingRoom;
 use fb_serve::{Ended, NotServed, Served, greet};
 use fb_shared::Shared;
 use fb_shared::bench::Identity;
@@ -22,6 +26,15 @@ use std::time::Clock;
 /// How many milliseconds a connection may take to send its first line.
 pub const FIRST_LINE_TIMEOUT: u64 = 10_000;
 
+/// How many milliseconds one reply may take.
+pub const REPLY_TIMEOUT: u64 = 600_000;
+
+/// How many milliseconds a commit waits at most for the workers.
+pub const COMMIT_WAIT: u64 = 1_000;
+
+/// How many milliseconds a session may keep a key that it has taken.
+pub const KEY_TIMEOUT: u64 = 60_000;
+
 /// How many callers of each sort a host has, the limits of its workbench (`history` is the number of calls of an epoch), and whom it admits.
 #[derive(Clone, Copy)]
 pub struct HostConfig {
@@ -32,14 +45,23 @@ pub struct HostConfig {
     pub first_line_timeout: u64,
     /// How many milliseconds a session may be silent, or 0 if it may be so forever.
     pub idle_timeout: u64,
-    /// After how many connections it closes.
+    /// How many milliseconds one reply may take.
+    pub reply_timeout: u64,
+    /// How many milliseconds a commit waits at most for the workers.
+    pub commit_wait: u64,
+    /// After how many milliseconds a key that a session has taken is given back.
+    pub key_timeout: u64,
+    /// After how many sessions it closes. Connections that get no seat are not counted.
     pub connections: u64,
     /// The identity of the workbench, by which a client notices that the host was started again.
     pub workbench: Identity,
+    /// The key of the challenges, which nobody else knows: each is the code of its number, so none comes twice and none takes a descriptor.
+    pub challenge_key: [u8; 32],
 }
 
-/// Gives each connection a free seat, if its first line is the secret or no secret is set, with workers beside the sessions. After `config.connections`
-/// connections it closes, once all sessions have ended. A fault of a session is printed on `errors` at once.
+/// Gives each connection a free seat, if its first line proves the secret, or if no secret is set and it begins with a request, with workers beside the sessions.
+/// After `config.connections` sessions it closes, once all of them have ended. A fault of a session is printed on `errors` soon. The seats are those of
+/// the sessions, then those of the workers, the one that gives back keys which sessions keep, and the one that reads how many keys are pending.
 fn host_sessions<R: Threads + Wait + Clock + Sync, E: Write + Send>(
     rt: &R,
     alloc: Global,
@@ -52,31 +74,44 @@ fn host_sessions<R: Threads + Wait + Clock + Sync, E: Write + Send>(
     ensures all { IfOk result
         (λ served. ShowsAll served.closed.bench served.receipts.items) }
     ensures counts { IfOk result
-        (λ served. IsBookOf served.closed.counts (config.sessions + config.workers)
+        (λ served. IsBookOf served.closed.counts (config.sessions + config.workers + 2)
         served.closed.bench) }
 {
-    let callers = u32::from(config.sessions) + u32::from(config.workers);
-    let (shared, mut seats) = Shared::rolling(alloc, config.limits, callers, config.workbench)?;
-    let workers = seats.split_off(usize::from(config.sessions))?;
+    let callers = u32::from(config.sessions) + u32::from(config.workers) + 2;
+    let (shared, mut sessions) = Shared::rolling(alloc, config.limits, callers, config.workbench)?;
+    let mut workers = sessions.split_off(usize::from(config.sessions))?;
+    let (Some(reader), Some(keeper)) = (workers.pop(), workers.pop()) else {
+        return Err(NotServed);
+    };
+    let seats = Seats {
+        sessions,
+        workers,
+        keeper,
+    };
     let host = HostState {
         shared,
         receipts: ReceiptStore::new(alloc, config.limits.history()),
-        admission: ConnectionQueue::new(alloc, ADMISSION_THREADS),
-        seats: ConnectionQueue::new(alloc, u64::from(config.sessions)),
-        first_line_timeout: config.first_line_timeout,
-        idle_timeout: config.idle_timeout,
-        connections: config.connections,
+        leases: Leases::new(alloc, config.key_timeout),
+        pace: Pace::new(reader, u64::from(config.workers), config.commit_wait),
+        notices: Notices::new(alloc),
+        waiting: WaitingRoom::new(alloc),
+        admission: ConnectionQueue::new(alloc, ADMISSION_THREADS, u64::MAX),
+        seats: ConnectionQueue::new(alloc, u64::from(config.sessions), config.connections),
+        config,
     };
-    let results = run_threads(rt, alloc, listener, &host, secret, errors, seats, workers);
+    let mut results = run_threads(rt, alloc, listener, &host, secret, errors, seats);
     let HostState {
         shared,
         receipts,
+        leases: _,
+        pace,
+        notices: _,
+        waiting: _,
         admission: _,
         seats: _,
-        first_line_timeout: _,
-        idle_timeout: _,
-        connections: _,
+        config: _,
     } = host;
+    results.add_seat(pace.into_seat());
     close(rt, alloc, shared, receipts, results)
 }
 
@@ -94,7 +129,7 @@ fn host_and_close<R: Threads + Wait + Clock + Sync, S: Sink, E: Write + Send>(
     ensures all { IfOk result
         (λ served. ShowsAll served.closed.bench served.receipts.items) }
     ensures counts { IfOk result
-        (λ served. IsBookOf served.closed.counts (config.sessions + config.workers)
+        (λ served. IsBookOf served.closed.counts (config.sessions + config.workers + 2)
         served.closed.bench) }
     ensures said { SaysLines (is_ok result) (S.held out.old) (S.held out.new) }
     ensures flushed { OnOk result (S.is_flushed out.new ≡ true) }
@@ -125,7 +160,7 @@ pub fn host_on<R: Threads + Wait + Clock + Sync, S: Sink, E: Write + Send>(
     ensures all { IfOk result.served
         (λ served. ShowsAll served.closed.bench served.receipts.items) }
     ensures counts { IfOk result.served
-        (λ served. IsBookOf served.closed.counts (config.sessions + config.workers)
+        (λ served. IsBookOf served.closed.counts (config.sessions + config.workers + 2)
         served.closed.bench) }
     ensures said { SaysLines (is_ok result.served) (S.held out.old) (S.held out.new) }
     ensures flushed { OnOk result.served (S.is_flushed out.new ≡ true) }

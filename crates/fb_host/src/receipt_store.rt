@@ -1,5 +1,5 @@
 //! The receipts of the calls since the history last began.
-ghost use Rattle.std.specs.Prelude.{◌≤◌};
+ghost use Rattle.std.specs.Prelude.{◌≡◌, ◌≤◌, ◌*◌, ◌-◌, length};
 
 use fb_shared::Receipt;
 use std::alloc::Global;
@@ -30,6 +30,16 @@ impl Drop for EpochReceipts {
     }
 }
 
+/// Drops the last receipts, up to this number of them. Once none is left their room is given back too.
+fn drop_last(alloc: Global, receipts: &mut Vec<Receipt>, count: usize)
+    ensures { length receipts.new.items ≡ length receipts.old.items - count }
+{
+    receipts.truncate(receipts.len().saturating_sub(count));
+    if receipts.is_empty() {
+        *receipts = Vec::new(alloc);
+    }
+}
+
 impl EpochReceipts {
     /// No receipts, of an epoch of this number of calls.
     pub(crate) fn new(alloc: Global, span: u64) -> EpochReceipts
@@ -45,7 +55,13 @@ impl EpochReceipts {
     }
 
     /// Takes the receipts in. Those that come too late are dropped. If there is no room, the others stay.
-    pub(crate) fn add(&mut self, receipts: &mut Vec<Receipt>) {
+    pub(crate) fn add(&mut self, receipts: &mut Vec<Receipt>)
+        // Within an epoch two receipts of the one before go with each that is new, as long as there are some.
+        ensures past { self.new.start ≡ self.old.start
+            → length self.new.past.items
+            ≤ length self.old.past.items
+            - 2 * (length self.new.receipts.items - length self.old.receipts.items) }
+    {
         let Some(last) = receipts.last() else {
             return;
         };
@@ -57,16 +73,8 @@ impl EpochReceipts {
         }
         let start = self.start;
         receipts.retain(|receipt| start < receipt.number());
-        self.drop_past(receipts.len().saturating_mul(2));
+        drop_last(self.alloc, &mut self.past, receipts.len().saturating_mul(2));
         let _added = self.receipts.append(receipts);
-    }
-
-    /// Drops up to `count` receipts of the epoch before.
-    fn drop_past(&mut self, count: usize) {
-        self.past.truncate(self.past.len().saturating_sub(count));
-        if self.past.is_empty() {
-            self.past = Vec::new(self.alloc);
-        }
     }
 
     /// Those with a number after this one.

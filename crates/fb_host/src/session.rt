@@ -4,6 +4,8 @@ ghost use Rattle.fb_wire.specs.{Ends.{IsConversation, streams}, Conversations.{R
 ghost use Rattle.fb_serve.specs.Sessions.{answered_in, call_shown};
 ghost use Rattle.fb_host.specs.HostSessions.{IsHostRun, LeadsTo, HostStep, session_of};
 
+use crate::leases::Leases;
+use crate::pace::Pace;
 use crate::receipt_store::ReceiptStore;
 use crate::session_desk::SessionDesk;
 use crate::session_receipts::SessionReceipts;
@@ -28,6 +30,8 @@ pub fn run_host_session<R: Wait + Clock, F: Feed, S: Sink>(
     alloc: Global,
     shared: &Shared,
     store: &ReceiptStore,
+    leases: &Leases,
+    pace: &Pace,
     state: CallerState,
     reader: &mut F,
     writer: &mut S,
@@ -49,7 +53,7 @@ pub fn run_host_session<R: Wait + Clock, F: Feed, S: Sink>(
     // The receipts are of calls with this seat, one after another, with reads between them.
     ensures run { IsHostRun state.seat result.session_receipts.all result.state.seat }
 {
-    let mut desk = SessionDesk::new(rt, shared, store, state);
+    let mut desk = SessionDesk::new(rt, shared, store, leases, pace, state);
     let end = run_lines(alloc, reader, writer, &mut desk, turns);
     let SessionDesk {
         seated,
@@ -57,6 +61,9 @@ pub fn run_host_session<R: Wait + Clock, F: Feed, S: Sink>(
         session_receipts,
         held,
         store: _,
+        leases: _,
+        pace: _,
+        commits: _,
     } = desk;
     let Seated {
         rt: _,

@@ -2,6 +2,8 @@
 ghost use Rattle.std.specs.Prelude.{◌≡◌, []};
 ghost use Rattle.fb_host.specs.HostSessions.{session_of};
 
+use crate::leases::Leases;
+use crate::pace::{Pace, RecentCommits};
 use crate::receipt_store::ReceiptStore;
 use crate::session_receipts::SessionReceipts;
 use fb_locked::bench::{
@@ -17,8 +19,8 @@ use std::marker::Model;
 use std::sync::Wait;
 use std::time::{Clock, Duration};
 
-/// A shared workbench as the desk of one seat, whose receipts go to the store. It never answers that the history is full: only lack of memory keeps
-/// a full one from beginning again.
+/// A shared workbench as the desk of one seat, whose receipts go to the store, with its recent commits. It never answers that the history is full: only lack of
+/// memory keeps a full one from beginning again.
 #[derive(Drop)]
 pub struct SessionDesk<'a, R: Wait> {
     pub(crate) seated: Seated<'a, R>,
@@ -26,6 +28,9 @@ pub struct SessionDesk<'a, R: Wait> {
     pub(crate) session_receipts: SessionReceipts,
     pub(crate) held: Vec<Held>,
     pub(crate) store: &'a ReceiptStore,
+    pub(crate) leases: &'a Leases,
+    pub(crate) pace: &'a Pace,
+    pub(crate) commits: RecentCommits,
 }
 
 impl<'a, R: Wait> Model for SessionDesk<'a, R> {
@@ -42,6 +47,8 @@ impl<'a, R: Wait> SessionDesk<'a, R> {
         rt: &'a R,
         shared: &'a Shared,
         store: &'a ReceiptStore,
+        leases: &'a Leases,
+        pace: &'a Pace,
         state: CallerState,
     ) -> SessionDesk<'a, R>
         ensures { result ≡ session_of shared.now.workbench state.seat [] }
@@ -62,6 +69,9 @@ impl<'a, R: Wait> SessionDesk<'a, R> {
             session_receipts: SessionReceipts::new(),
             held,
             store,
+            leases,
+            pace,
+            commits: RecentCommits::NONE,
         }
     }
 }
@@ -84,6 +94,10 @@ impl<R: Wait + Clock> Desk for SessionDesk<'_, R> {
     }
 
     fn perform(&mut self, request: &Request<'_>) -> Result<Answered, DeskError> {
+        if matches!(request, Request::Commit(_)) {
+            let (rt, shared) = (self.seated.rt, self.shared);
+            self.commits = self.pace.await_turn(rt, shared, self.leases, self.commits);
+        }
         if self.held.reserve(1).is_err() {
             let is_behind = self.shared.is_behind(self.seated.rt, &self.seated.seat);
             return Err(if is_behind {
@@ -97,7 +111,17 @@ impl<R: Wait + Clock> Desk for SessionDesk<'_, R> {
                 match self.seated.receipts.last() {
                     Some(receipt) => {
                         self.session_receipts = self.session_receipts.then(receipt);
-                        note(&mut self.held, request, &answer, receipt.number());
+                        let number = receipt.number();
+                        note(&mut self.held, request, &answer, number);
+                        let caller = receipt.caller();
+                        lease(
+                            self.seated.rt,
+                            self.leases,
+                            caller,
+                            request,
+                            &answer,
+                            number,
+                        );
                     }
                     None => unreachable!(),
                 }
@@ -130,25 +154,54 @@ impl<R: Wait + Clock> Desk for SessionDesk<'_, R> {
 
 /// Notes which keys are held after a call of this number.
 fn note(held: &mut Vec<Held>, request: &Request<'_>, answer: &Answered, number: u64) {
-    match answer {
-        Answered::Take(Taken::Job(job)) => {
-            let taken = Held {
-                key: job.key(),
-                since: number,
-            };
-            hold(held, taken);
-        }
-        Answered::Deliver(Delivered::Accepted) | Answered::GiveBack(GivenBack::Returned) => {
-            if let Some(key) = settled(request) {
-                forget(held, &key);
-            }
-        }
-        _ => {}
+    if let Some(it) = taken(answer, number) {
+        hold(held, it);
+    }
+    if let Some(key) = settled(request, answer) {
+        forget(held, &key);
     }
 }
 
-/// The key that is settled if this is done.
-fn settled(request: &Request<'_>) -> Option<Key> {
+/// Notes for how long a key is out, or that it is settled, after a call of this number.
+fn lease<R: Wait + Clock>(
+    rt: &R,
+    leases: &Leases,
+    caller: u32,
+    request: &Request<'_>,
+    answer: &Answered,
+    number: u64,
+) {
+    if let Some(it) = taken(answer, number) {
+        leases.add(rt, caller, it);
+    }
+    if let Some(key) = settled(request, answer) {
+        leases.settle(rt, key, number);
+    }
+}
+
+/// The key that was taken, by a call of this number.
+fn taken(answer: &Answered, number: u64) -> Option<Held> {
+    match answer {
+        Answered::Take(Taken::Job(job)) => Some(Held {
+            key: job.key(),
+            since: number,
+        }),
+        _ => None,
+    }
+}
+
+/// The key that is settled by a request with this answer.
+fn settled(request: &Request<'_>, answer: &Answered) -> Option<Key> {
+    match answer {
+        Answered::Deliver(Delivered::Accepted) | Answered::GiveBack(GivenBack::Returned) => {
+            key_of(request)
+        }
+        _ => None,
+    }
+}
+
+/// The key that a request would settle.
+fn key_of(request: &Request<'_>) -> Option<Key> {
     match request {
         Request::Deliver(finished) => Some(finished.key()),
         Request::GiveBack(key) => Some(*key),

@@ -1,18 +1,27 @@
-//! The threads of a host: admission, sessions and workers.
-ghost use Rattle.std.specs.Prelude.{◌≡◌, IsTrue};
+//! The threads of a host: admission, sessions, workers, the keeper of keys, and the one that prints.
+ghost use Rattle.std.specs.Prelude.{◌≡◌, ◌≢◌, IsTrue};
+ghost use Rattle.fb_locked.specs.declared.look.WorkEnd.TheVariants as ends;
 ghost use Rattle.fb_host.specs.HostSessions.{LeadsTo};
 
+use crate::accepting::accept_connections;
 use crate::admission::admit_connections;
 use crate::connection::{Connection, ConnectionReader};
 use crate::connection_queue::ConnectionQueue;
+use crate::hosting::HostConfig;
+use crate::keeper::keep_keys;
+use crate::leases::Leases;
+use crate::notices::{Notice, Notices, print_notices};
+use crate::pace::Pace;
 use crate::receipt_store::ReceiptStore;
+use crate::reply_writer::ReplyWriter;
 use crate::session::{SessionResult, give_back_all, run_host_session};
-use fb_serve::{CallerState, TURNS, keep_working, pause, say_error};
+use crate::waiting_room::WaitingRoom;
+use fb_serve::{CallerState, TURNS, keep_working, pause};
 use fb_shared::{Seat, Shared, WorkEnd};
 use fb_wire::{FromRead, IntoWrite, RunEnd, error_of};
 use std::alloc::Global;
 use std::io::Write;
-use std::net::{OpenListener, TcpListener, TcpStream};
+use std::net::TcpListener;
 use std::sync::{Mutex, Wait};
 use std::thread;
 use std::thread::{JoinHandle, Scope, Threads};
@@ -24,18 +33,17 @@ const BATCH: u64 = 64;
 /// How many first lines are read at once.
 pub(crate) const ADMISSION_THREADS: u64 = 32;
 
-/// How often in a row a listener may fail.
-const FAILURES: u64 = 600;
-
 /// What the threads of a host share.
 pub(crate) struct HostState {
     pub(crate) shared: Shared,
     pub(crate) receipts: ReceiptStore,
+    pub(crate) leases: Leases,
+    pub(crate) pace: Pace,
+    pub(crate) notices: Notices,
+    pub(crate) waiting: WaitingRoom,
     pub(crate) admission: ConnectionQueue,
     pub(crate) seats: ConnectionQueue,
-    pub(crate) first_line_timeout: u64,
-    pub(crate) idle_timeout: u64,
-    pub(crate) connections: u64,
+    pub(crate) config: HostConfig,
 }
 
 /// The seats that the threads left, and whether each thread was started and each receipt kept.
@@ -46,6 +54,22 @@ pub(crate) struct Results {
 }
 
 impl Results {
+    fn new(alloc: Global, is_whole: bool) -> Results
+        ensures { result.is_whole ≡ is_whole }
+    {
+        Results {
+            seats: Vec::new(alloc),
+            is_whole,
+        }
+    }
+
+    /// Adds a seat.
+    pub(crate) fn add_seat(&mut self, seat: Seat)
+        ensures { IsTrue self.new.is_whole → IsTrue self.old.is_whole }
+    {
+        self.is_whole &= self.seats.push(seat).is_ok();
+    }
+
     fn add<R: Wait>(&mut self, rt: &R, store: &ReceiptStore, state: CallerState)
         ensures { IsTrue self.new.is_whole → IsTrue self.old.is_whole }
     {
@@ -55,7 +79,8 @@ impl Results {
             mut receipts,
         } = state;
         store.add(rt, &mut receipts);
-        self.is_whole &= receipts.is_empty() && self.seats.push(seat).is_ok();
+        self.is_whole &= receipts.is_empty();
+        self.add_seat(seat);
     }
 
     fn add_all<R: Threads + Wait>(
@@ -74,6 +99,22 @@ impl Results {
         }
         self.is_whole &= is_whole;
     }
+
+    /// Ends the keeper of keys, and adds what it leaves.
+    fn add_keeper<R: Threads + Wait>(
+        &mut self,
+        rt: &R,
+        host: &HostState,
+        keeper: Option<JoinHandle<CallerState>>,
+    )
+        ensures { IsTrue self.new.is_whole → IsTrue self.old.is_whole }
+    {
+        host.leases.close(rt);
+        match keeper {
+            Some(thread) => self.add(rt, &host.receipts, thread.join(rt)),
+            None => self.is_whole = false,
+        }
+    }
 }
 
 /// Threads that were started, and whether all of them were.
@@ -83,7 +124,15 @@ struct Started<T> {
     is_whole: bool,
 }
 
-/// Runs the workers, the sessions and the admission of a host, and accepts connections. It returns when all sessions have ended after the last connection.
+/// The seats of a host's threads.
+#[derive(Drop)]
+pub(crate) struct Seats {
+    pub(crate) sessions: Vec<Seat>,
+    pub(crate) workers: Vec<Seat>,
+    pub(crate) keeper: Seat,
+}
+
+/// Runs the threads of a host, and accepts connections. It returns when all sessions have ended after the last connection.
 pub(crate) fn run_threads<R: Threads + Wait + Clock + Sync, E: Write + Send>(
     rt: &R,
     alloc: Global,
@@ -91,32 +140,76 @@ pub(crate) fn run_threads<R: Threads + Wait + Clock + Sync, E: Write + Send>(
     host: &HostState,
     secret: &[u8],
     errors: &Mutex<E>,
-    sessions: Vec<Seat>,
-    workers: Vec<Seat>,
+    seats: Seats,
 ) -> Results {
+    let Seats {
+        sessions,
+        workers,
+        keeper,
+    } = seats;
     thread::scope(thread::scope_env(), rt, |scope| {
+        let printer = start_printer(scope, rt, host, errors);
+        let keeper = start_keeper(scope, rt, alloc, host, keeper);
         let workers = start_workers(scope, rt, alloc, host, workers);
-        let sessions = start_sessions(scope, rt, alloc, host, errors, sessions);
+        let sessions = start_sessions(scope, rt, alloc, host, sessions);
         let admission = start_admission(scope, rt, alloc, host, secret);
-        let mut is_whole = workers.is_whole && sessions.is_whole && admission.is_whole;
+        let has_threads = printer.is_some() && keeper.is_some() && admission.is_whole;
+        let is_whole = has_threads && workers.is_whole && sessions.is_whole;
         if is_whole {
-            is_whole = accept_connections(rt, alloc, listener, host);
+            accept_connections(rt, alloc, listener, host);
         }
-        host.admission.close(rt);
-        host.shared.end_watches(rt);
-        for thread in admission.threads {
-            thread.join(rt);
-        }
-        host.seats.close(rt);
-        let mut results = Results {
-            seats: Vec::new(alloc),
-            is_whole,
-        };
+        end_admission(rt, host, admission);
+        let mut results = Results::new(alloc, is_whole);
         results.add_all(rt, &host.receipts, sessions);
+        results.add_keeper(rt, host, keeper);
         host.shared.stop(rt);
         results.add_all(rt, &host.receipts, workers);
+        end_printer(rt, host, printer);
         results
     })
+}
+
+/// Lets nobody in any more, and ends what those who watch wait for.
+fn end_admission<R: Threads + Wait>(rt: &R, host: &HostState, admission: Started<()>) {
+    host.admission.close(rt);
+    host.shared.end_watches(rt);
+    for thread in admission.threads {
+        thread.join(rt);
+    }
+    host.seats.close(rt);
+}
+
+/// Waits until all lines are printed.
+fn end_printer<R: Threads + Wait>(rt: &R, host: &HostState, printer: Option<JoinHandle<()>>) {
+    host.notices.close(rt);
+    if let Some(thread) = printer {
+        thread.join(rt);
+    }
+}
+
+/// Starts the thread that prints.
+fn start_printer<'s, Env, R: Threads + Wait + Clock + Sync, E: Write + Send>(
+    scope: &Scope<'s, Env>,
+    rt: &'s R,
+    host: &'s HostState,
+    errors: &'s Mutex<E>,
+) -> Option<JoinHandle<()>> {
+    scope
+        .spawn(move || print_notices(rt, &host.notices, errors))
+        .ok()
+}
+
+/// Starts the keeper of keys.
+fn start_keeper<'s, Env, R: Threads + Wait + Clock + Sync>(
+    scope: &Scope<'s, Env>,
+    rt: &'s R,
+    alloc: Global,
+    host: &'s HostState,
+    seat: Seat,
+) -> Option<JoinHandle<CallerState>> {
+    scope
+        .spawn(move || keep_keys(rt, host, CallerState::new(alloc, seat)))
+        .ok()
 }
 
 fn start_workers<'s, Env, R: Threads + Wait + Clock + Sync>(
@@ -133,7 +226,7 @@ fn start_workers<'s, Env, R: Threads + Wait + Clock + Sync>(
             is_whole = false;
             break;
         }
-        match scope.spawn(move || run_worker(rt, alloc, host, CallerState::new(alloc, seat))) {
+        match scope.spawn(move || run_worker(rt, alloc, host, CallerState::new(alloc, seat)).0) {
             Ok(thread) => threads.push_reserved(thread),
             Err(_) => {
                 is_whole = false;
@@ -144,12 +237,11 @@ fn start_workers<'s, Env, R: Threads + Wait + Clock + Sync>(
     Started { threads, is_whole }
 }
 
-fn start_sessions<'s, Env, R: Threads + Wait + Clock + Sync, E: Write + Send>(
+fn start_sessions<'s, Env, R: Threads + Wait + Clock + Sync>(
     scope: &Scope<'s, Env>,
     rt: &'s R,
     alloc: Global,
     host: &'s HostState,
-    errors: &'s Mutex<E>,
     seats: Vec<Seat>,
 ) -> Started<CallerState> {
     let mut threads = Vec::new(alloc);
@@ -159,13 +251,7 @@ fn start_sessions<'s, Env, R: Threads + Wait + Clock + Sync, E: Write + Send>(
             is_whole = false;
             break;
         }
-        match scope.spawn(move || run_sessions(
-            rt,
-            alloc,
-            host,
-            errors,
-            CallerState::new(alloc, seat),
-        )) {
+        match scope.spawn(move || run_sessions(rt, alloc, host, CallerState::new(alloc, seat))) {
             Ok(thread) => threads.push_reserved(thread),
             Err(_) => {
                 is_whole = false;
@@ -190,7 +276,7 @@ fn start_admission<'s, Env, R: Threads + Wait + Clock + Sync>(
             is_whole = false;
             break;
         }
-        match scope.spawn(move || admit_connections(rt, host, secret)) {
+        match scope.spawn(move || admit_connections(rt, alloc, host, secret)) {
             Ok(thread) => threads.push_reserved(thread),
             Err(_) => {
                 is_whole = false;
@@ -201,41 +287,18 @@ fn start_admission<'s, Env, R: Threads + Wait + Clock + Sync>(
     Started { threads, is_whole }
 }
 
-/// Hands each connection to a thread of admission, or closes it at once if none is free. It is false if the listener has failed for long.
-fn accept_connections<R: Wait + Clock>(
-    rt: &R,
-    alloc: Global,
-    listener: &TcpListener,
-    host: &HostState,
-) -> bool {
-    for _ in 0..host.connections {
-        let Some(stream) = accept(rt, listener) else {
-            return false;
-        };
-        let _closed = host.admission.offer(rt, Connection::new(alloc, stream));
-    }
-    true
-}
-
-fn accept<R: Clock>(rt: &R, listener: &TcpListener) -> Option<TcpStream> {
-    for _ in 0..FAILURES {
-        match listener.accept() {
-            Ok((stream, _peer)) => return Some(stream),
-            Err(_) => pause(rt),
-        }
-    }
-    None
-}
-
-/// A worker's thread. Its receipts go to the store now and then.
+/// A worker's thread, and why it ends. Its receipts go to the store now and then.
 #[tactic(auto, using(crate::proofs::SessionLemmas::leads))]
 fn run_worker<R: Wait + Clock>(
     rt: &R,
     alloc: Global,
     host: &HostState,
     state: CallerState,
-) -> CallerState
-    ensures { LeadsTo state.seat result.seat }
+) -> (CallerState, WorkEnd)
+    ensures calls { LeadsTo state.seat result.0.seat }
+    // It ends neither for lack of memory nor since the history is full.
+    ensures end { (result.1 ≢ ends.Memory) × (result.1 ≢ ends.HistoryFull)
+        × (result.1 ≢ ends.TurnsOver) }
 {
     let mut state = state;
     for _ in rt.forever() {
@@ -244,54 +307,64 @@ fn run_worker<R: Wait + Clock>(
         match end {
             WorkEnd::TurnsOver => {}
             WorkEnd::Memory | WorkEnd::HistoryFull => pause(rt),
-            WorkEnd::Stopped | WorkEnd::SeatDiffers { .. } | WorkEnd::Behind { .. } => return state,
+            WorkEnd::Stopped | WorkEnd::SeatDiffers { .. } | WorkEnd::Behind { .. } => {
+                return (state, end);
+            }
         }
     }
     // `forever` never ends.
     unreachable!()
 }
 
-/// A seat's thread: session after session.
-fn run_sessions<R: Wait + Clock, E: Write>(
+/// A seat's thread: session after session. The seat is free before it is printed how the session ended.
+fn run_sessions<R: Wait + Clock>(
     rt: &R,
     alloc: Global,
     host: &HostState,
-    errors: &Mutex<E>,
     state: CallerState,
 ) -> CallerState
     ensures { LeadsTo state.seat result.seat }
 {
+    let caller = state.seat.caller();
     let mut state = state;
     for _ in rt.forever() {
         let Some(connection) = host.seats.next(rt) else {
             return state;
         };
-        state = serve_connection(rt, alloc, host, errors, state, &connection);
+        let (left, notice) = serve_connection(rt, alloc, host, state, &connection);
+        state = left;
         give_back_all(rt, &host.shared, &host.receipts, &mut state);
+        if state.held.is_empty() {
+            host.leases.end(rt, caller);
+        }
         host.seats.add_idle(rt);
+        if let Some(notice) = notice {
+            host.notices.add(rt, notice);
+        }
     }
     // `forever` never ends.
     unreachable!()
 }
 
-/// A session. It reports a fault before it ends.
+/// A session, and what the host prints of its end.
 #[tactic(auto, using(crate::proofs::SessionLemmas::leads))]
-fn serve_connection<R: Wait + Clock, E: Write>(
+fn serve_connection<R: Wait + Clock>(
     rt: &R,
     alloc: Global,
     host: &HostState,
-    errors: &Mutex<E>,
     state: CallerState,
     connection: &Connection,
-) -> CallerState
-    ensures { LeadsTo state.seat result.seat }
+) -> (CallerState, Option<Notice>)
+    ensures { LeadsTo state.seat result.0.seat }
 {
     let caller = state.seat.caller();
-    let idle = (0 < host.idle_timeout).then_some(Duration::from_millis(host.idle_timeout));
+    let most = host.config.reply_timeout;
+    let idle_timeout = host.config.idle_timeout;
+    let idle = (0 < idle_timeout).then_some(Duration::from_millis(idle_timeout));
     let _ = connection.stream.set_read_timeout(idle);
-    let _ = connection.stream.set_write_timeout(idle);
     let mut input = ConnectionReader::of(connection);
-    let mut writer = IntoWrite::new(&connection.stream);
+    let output = ReplyWriter::new(rt, &connection.stream, most, idle_timeout);
+    let mut writer = IntoWrite::new(output);
     let SessionResult {
         end,
         state,
@@ -303,30 +376,22 @@ fn serve_connection<R: Wait + Clock, E: Write>(
             alloc,
             &host.shared,
             &host.receipts,
+            &host.leases,
+            &host.pace,
             state,
             &mut reader,
             &mut writer,
             TURNS,
         )
     };
-    report_end(rt, errors, caller, end, input.is_idle);
-    state
+    (state, notice_of(caller, end, input.is_idle))
 }
 
-fn report_end<R: Wait, E: Write>(
-    rt: &R,
-    errors: &Mutex<E>,
-    caller: u32,
-    end: RunEnd,
-    is_idle: bool,
-) {
-    let Some(error) = error_of(end) else {
-        return;
-    };
-    let mut errors = errors.lock(rt);
+/// What the host prints of the end of a session: nothing if its input ended.
+fn notice_of(caller: u32, end: RunEnd, is_idle: bool) -> Option<Notice> {
+    let error = error_of(end)?;
     if end == RunEnd::ReadFailed && is_idle {
-        let _ = writeln!(&mut *errors, "session {caller}: idle");
-    } else {
-        say_error(&mut *errors, caller, error);
+        return Some(Notice::Idle { caller });
     }
+    Some(Notice::Failed { caller, error })
 }

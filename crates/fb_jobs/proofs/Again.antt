@@ -9,9 +9,9 @@ use Rattle.fb_deploy.specs.Library.Texts.{Texts, held, sources_of}
 use Rattle.fb_deploy.specs.{Library.View.{Sources, is_structure_at, mentioned_at, mentions_at, mentions_of_tree, tree_of, values_at}, Flatten.Far.{far_of}}
 use Rattle.fb_deploy.proofs.{Library.CarriedLemmas.{carried_is_all}, Library.FarLemmas.{one_in_order, one_list}}
 use Rattle.fb_deploy.proofs.{Library.Locality.{near_base, near_carried, near_unit, rests_more}, Flatten.FarNames.{far_is_all}}
-use Rattle.fb_jobs.specs.{declared.key.Kind.{Kind}, declared.key.Key.{Key}, Keys.{needs, needs_of}, Reuse.{MentionsTheSame, seen_text}}
+use Rattle.fb_jobs.specs.{declared.keys.key.Kind.{Kind}, declared.keys.key.Key.{Key}, Keys.{needs, needs_of}, Reuse.{MentionsTheSame, seen_text}}
 use Rattle.fb_jobs.specs.Reads.{IsRight, Seen, read_names, read_texts, reads_under}
-use Rattle.fb_jobs.specs.declared.key.Kind.TheVariants as kind
+use Rattle.fb_jobs.specs.declared.keys.key.Kind.TheVariants as kind
 use Rattle.fb_jobs.proofs.{ReuseLemmas.{count_names, under}, Sources.{get_source}}
 
 -- both mention the same under a name

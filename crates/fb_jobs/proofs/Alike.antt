@@ -5,7 +5,7 @@ use Rattle.fb_text.specs.Order.{name_cmp}
 use Rattle.fb_deploy.proofs.{Library.Names.{name_total, exact_name}, Iface.FaultLemmas.{fault_cmp-exact}}
 use Rattle.fb_deploy.specs.{Iface.declared.fault.Fault.{Fault}, Iface.Fault.{fault_cmp, fault_cmp_total}, Placing.PlainPlan.{PlainPlan}}
 use Rattle.fb_deploy.specs.{Placing.PlainResource.{PlainResource}, Deploy.{planned}}
-use Rattle.fb_jobs.specs.{declared.key.Key.{Key}, KeyOrder.{key_cmp_total, same_key}}
+use Rattle.fb_jobs.specs.{declared.keys.key.Key.{Key}, KeyOrder.{key_cmp_total, same_key}}
 use Rattle.fb_jobs.proofs.Order.{exact_key}
 use Rattle.fb_network.proofs.Alike.{SameLeftBy, same_to_end_by, told_by}
 use Rattle.fb_network.specs.declared.flat.Link.{Link}

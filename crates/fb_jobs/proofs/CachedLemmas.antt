@@ -16,13 +16,13 @@ use Rattle.fb_deploy.specs.Flatten.Nets.{finite_net, first_net, has_net_in, is_r
 use Rattle.fb_deploy.proofs.{Library.Locality.{near_far, rests_both}, Library.Sources.{get_source}, Library.WalkLemmas.{has-Contains, Contains-has}}
 use Rattle.fb_deploy.proofs.Flatten.FarNames.{far_is_all}
 use Rattle.fb_tree.specs.Tree.{DeclTree, block_type, adapter_type, subapplication_type, system_configuration, structure_type}
-use Rattle.fb_jobs.specs.{declared.hints.Hint.{Hint}, declared.key.Kind.{Kind}, declared.key.Key.{Key}, declared.value.Value.{Value}, declared.cached.Judged.{Judged}}
-use Rattle.fb_jobs.specs.{declared.value.Value.TheVariants.{Faults, Net, Deploy}, Hints.{AreChosen, AreHints, IsHint, net_key}}
+use Rattle.fb_jobs.specs.{declared.kept.hints.Hint.{Hint}, declared.keys.key.Kind.{Kind}, declared.keys.key.Key.{Key}, declared.values.value.Value.{Value}, declared.kept.cached.Judged.{Judged}}
+use Rattle.fb_jobs.specs.{declared.values.value.Value.TheVariants.{Faults, Net, Deploy}, Hints.{AreChosen, AreHints, IsHint, net_key}}
 use Rattle.fb_jobs.specs.Keys.{Finding, FaultsFound, NetFound, DeployFound, NothingFound, has_key, has_kind_at, needs, needs_of, net_finding, scratch}
 use Rattle.fb_jobs.specs.Cached.{IsCached, AddsNet, AreBlocking, AreFaultlessAmong, AreJudged, AreNetsOf, AreWithoutFaults, IsBlockedBy, IsFlag, IsKeptFaultless, IsNetOfUnit, IsOwnNet, IsThere, Nets, faults_key, hint_in, is_flagged, judged, named_if, net_in, some_faults}
-use Rattle.fb_jobs.specs.{Cache.{AreKept}, Kinds.{needs_all}, declared.cached.Cached.{Cached}}
+use Rattle.fb_jobs.specs.{Cache.{AreKept}, Kinds.{needs_all}, declared.kept.cached.Cached.{Cached}}
 use Rattle.fb_jobs.specs.{Reads.{Agree, Seen, is_among, read_names, read_texts, reads_for, reads_under}, Values.{finding_of}, Work.{IsOwnIn}}
-use Rattle.fb_jobs.specs.declared.key.Kind.TheVariants as kind
+use Rattle.fb_jobs.specs.declared.keys.key.Kind.TheVariants as kind
 use Rattle.fb_jobs.proofs.SameNeeds.{has_key_local, kind_there, scratch_local, same_at, at_itself, unit_needed}
 use Rattle.fb_jobs.proofs.{Currents.{AllCurrent, agree_for, current_under, names_under}, HintLemmas.{chosen_hints, hints_stay, net_stays, no_hints}}
 

@@ -6,7 +6,7 @@ use Rattle.std.specs.{Cmp.Lexicographic.{pointwise}, BTreeMap.{is_at}, Option.{o
 use Rattle.fb_deploy.proofs.Library.Names.{name_total}
 use Rattle.fb_text.specs.Order.{name_cmp}
 use Rattle.fb_deploy.specs.Library.Texts.{Texts, Held, held, text_in}
-use Rattle.fb_jobs.specs.{declared.key.Key.{Key}, Keys.{needs, has_key, scratch}}
+use Rattle.fb_jobs.specs.{declared.keys.key.Key.{Key}, Keys.{needs, has_key, scratch}}
 use Rattle.fb_jobs.specs.Reads.{Seen, PlainJob, IsOf, IsRight, is_among, Agree, read_names, read_texts, put_found, reads_under, reads_for, same_found, same_held, is_current, stale, IsLeastStale}
 use Rattle.fb_jobs.proofs.SameNeeds.{same_at, needs_local, has_key_local, scratch_local, needs_rise}
 

@@ -11,12 +11,12 @@ use Rattle.fb_deploy.specs.{Library.Texts.{Texts, sources_of, text_in}, Library.
 use Rattle.fb_deploy.specs.{Flatten.Far.{far_of}, Flatten.Tables.{is_subapplication_in}}
 use Rattle.fb_deploy.proofs.{Library.Names.{name_total}, Library.Sources.{get_source}, Library.WalkLemmas.{has-Contains, Contains-has}}
 use Rattle.fb_deploy.proofs.Flatten.FarNames.{far_is_all}
-use Rattle.fb_jobs.specs.{declared.hints.Hint.{Hint}, declared.key.Kind.{Kind}, declared.key.Key.{Key}, Keys.{Finding, needs, needs_of, scratch}}
+use Rattle.fb_jobs.specs.{declared.kept.hints.Hint.{Hint}, declared.keys.key.Kind.{Kind}, declared.keys.key.Key.{Key}, Keys.{Finding, needs, needs_of, scratch}}
 use Rattle.fb_jobs.specs.{Cache.{AreKept}, Kinds.{needs_all}, Reuse.{seen_text}, Reads.{IsOf, Seen, is_among, read_names, read_texts, reads_for}}
 use Rattle.fb_jobs.specs.Values.{finding_of, all_seen, seen_of}
 use Rattle.fb_jobs.specs.Hints.{AddsChosen, AreChosen, AreHints, IsHint, IsKeptHint, is_chosen, is_other_subapplication, net_key, units_of}
-use Rattle.fb_jobs.specs.declared.read.Read.{Read}
-use Rattle.fb_jobs.specs.declared.key.Kind.TheVariants as kind
+use Rattle.fb_jobs.specs.declared.keys.read.Read.{Read}
+use Rattle.fb_jobs.specs.declared.keys.key.Kind.TheVariants as kind
 use Rattle.fb_jobs.proofs.{SameNeeds.{scratch_local, needs_local, needs_rise}, Currents.{agree_for, names_under}}
 
 pub rests_on : {sources : Sources} {a b c : List ℕ} → Rests sources a b → Rests sources b c → Rests sources a c

@@ -7,7 +7,7 @@ use Rattle.std.specs.{declared.cmp.Ordering.{Ordering}, declared.cmp.Ordering.Th
 use Rattle.fb_text.proofs.{Tests.{and_false}, OrderLemmas.{is_equal}}
 use Rattle.fb_text.specs.Order.{name_cmp}
 use Rattle.fb_deploy.specs.{Library.View.{Sources}, Library.Near.{near_of}, Flatten.Far.{far_of}}
-use Rattle.fb_jobs.specs.{declared.key.Kind.{Kind}, declared.key.Kind.TheVariants.{Faults, Net, Deploy}, declared.key.Key.{Key}}
+use Rattle.fb_jobs.specs.{declared.keys.key.Kind.{Kind}, declared.keys.key.Kind.TheVariants.{Faults, Net, Deploy}, declared.keys.key.Key.{Key}}
 use Rattle.fb_jobs.specs.{KeyOrder.{kind_number, kind_cmp, key_cmp, same_key}, Keys.{has_kind_at, needs_of}}
 use Rattle.fb_jobs.specs.{Kinds.{all_kinds, all_keys, keys_near_and_far, keys_of_kind, names_for, needs_all}, Reads.{is_among}}
 use Rattle.fb_jobs.proofs.Order.{exact_kind}

@@ -3,7 +3,7 @@ use Rattle.std.proofs.{Common.{◌≡◌, Bool, true, false, ◌||◌, ◌&&◌,
 use Rattle.std.proofs.lemmas.Cmp.{eq_by_cmp_equiv}
 use Rattle.fb_text.proofs.Tests.{or_false, and_false}
 use Rattle.std.specs.List.{list_any}
-use Rattle.fb_jobs.specs.{declared.key.Key.{Key}, KeyOrder.{key_cmp_total, same_key}}
+use Rattle.fb_jobs.specs.{declared.keys.key.Key.{Key}, KeyOrder.{key_cmp_total, same_key}}
 use Rattle.fb_jobs.proofs.Order.{keys_equal}
 
 abbrev is_of : Key → List Key → Bool

@@ -3,7 +3,7 @@ use Rattle.std.proofs.Common.{◌≡◌, refl, true, arith}
 use Rattle.std.specs.{declared.cmp.Ordering.TheVariants.{Equal}, Ordering.{nat_cmp}, FinMap.{nat_cmp-IsAntisymmetric}}
 use Rattle.fb_text.proofs.OrderLemmas.{is_equal, both_equal}
 use Rattle.fb_deploy.proofs.Library.Names.{exact_name}
-use Rattle.fb_jobs.specs.{declared.key.Kind.{Kind}, declared.key.Kind.TheVariants.{Faults, Net, Deploy}, declared.key.Key.{Key}}
+use Rattle.fb_jobs.specs.{declared.keys.key.Kind.{Kind}, declared.keys.key.Kind.TheVariants.{Faults, Net, Deploy}, declared.keys.key.Key.{Key}}
 use Rattle.fb_jobs.specs.KeyOrder.{kind_number, key_cmp, same_key}
 
 pub exact_kind : (a b : Kind) → kind_number a ≡ kind_number b → a ≡ b

@@ -4,7 +4,7 @@ use Rattle.std.proofs.lemmas.Option.{unwrap_or-slice_get, slice_get-get_or}
 use Rattle.std.proofs.lemmas.List.{append_assoc, get_or-set_same, length-set, same_lists, set_at}
 use Rattle.std.specs.{declared.sync.Arc.{Arc}, declared.alloc.Global.{Global}}
 use Rattle.fb_deploy.specs.{Library.Filed.{filed_text}, Library.declared.filed.Version.{Version}}
-use Rattle.fb_jobs.specs.{Reads.{Seen}, Replaced.{all_replaced, more_replaced, replaced, unless_replaced}, Texts.{there}, declared.texts.Replacement.{Replacement}}
+use Rattle.fb_jobs.specs.{Reads.{Seen}, Replaced.{all_replaced, more_replaced, replaced, unless_replaced}, Texts.{there}, declared.keys.texts.Replacement.{Replacement}}
 
 -- ---- one more, and several more
 

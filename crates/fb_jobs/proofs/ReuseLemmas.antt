@@ -10,12 +10,12 @@ use Rattle.fb_deploy.specs.{Flatten.Net.{PlainNet, plain_net}, Flatten.Nets.{net
 use Rattle.fb_deploy.specs.{Flatten.Wiring.Tree.Mentions.{unit_kind_of}, Flatten.Wiring.Tree.declared.kinds.UnitKind.TheVariants.{Block}}
 use Rattle.fb_deploy.proofs.{Flatten.FarNames.{far_is_all}, Flatten.NetLocality.{says_itself}, Flatten.NetUnchanged.{net_left, no_faults_of_nothing}}
 use Rattle.fb_deploy.proofs.PlanUnchanged.{plan_left}
-use Rattle.fb_jobs.specs.{declared.key.Kind.{Kind}, declared.key.Key.{Key}, declared.value.Value.{Value}}
-use Rattle.fb_jobs.specs.{declared.value.Value.TheVariants.{Faults, Net, Deploy}, Hints.{net_key}}
+use Rattle.fb_jobs.specs.{declared.keys.key.Kind.{Kind}, declared.keys.key.Key.{Key}, declared.values.value.Value.{Value}}
+use Rattle.fb_jobs.specs.{declared.values.value.Value.TheVariants.{Faults, Net, Deploy}, Hints.{net_key}}
 use Rattle.fb_jobs.specs.{Keys.{DeployFound, NetFound, needs, net_finding, plan_finding, scratch, scratch_of}, Cached.{AreWithoutFaults}}
 use Rattle.fb_jobs.specs.{Reuse.{AreStillRead, IsDerived, IsStillFound, IsStillRead, is_whole_value, seen_text}, Reads.{IsRight, Seen, read_names, read_texts}}
 use Rattle.fb_jobs.specs.Values.{finding_of}
-use Rattle.fb_jobs.specs.declared.key.Kind.TheVariants as kind
+use Rattle.fb_jobs.specs.declared.keys.key.Kind.TheVariants as kind
 use Rattle.fb_jobs.proofs.{CachedLemmas.{faultless_in, net_found}, Searches.{found_at}, SameNeeds.{needs_rise, scratch_is}, Sources.{get_source}}
 
 module _ (unit : List ℕ) (faultless : List ℕ → Bool) (name : List ℕ) where

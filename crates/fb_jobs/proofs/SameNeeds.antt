@@ -8,7 +8,7 @@ use Rattle.fb_deploy.proofs.{Library.CarriedLemmas.{near_is_all}, Library.Names.
 use Rattle.fb_deploy.proofs.{Library.WalkLemmas.{has-Contains}, Library.Locality.{near_unit, near_local}, Faults.Locality.{faults_local}}
 use Rattle.fb_deploy.proofs.{Flatten.FarNames.{far_is_all, far_of_local, far_unit}, Flatten.ComputedNets.{net_at_local}, ComputedPlans.{plan_at_local}}
 use Rattle.fb_deploy.specs.Library.Local as local
-use Rattle.fb_jobs.specs.{declared.key.Kind.{Kind}, declared.key.Kind.TheVariants.{Faults, Net, Deploy}, declared.key.Key.{Key}}
+use Rattle.fb_jobs.specs.{declared.keys.key.Kind.{Kind}, declared.keys.key.Kind.TheVariants.{Faults, Net, Deploy}, declared.keys.key.Key.{Key}}
 use Rattle.fb_jobs.specs.{Keys.{needs, needs_of, has_key, has_kind_at, scratch, scratch_of, net_finding, plan_finding, FaultsFound}, Reads.{is_among, Agree}}
 
 pub at_itself : (n : List ℕ) → is_at (name_cmp n) n ≡ true

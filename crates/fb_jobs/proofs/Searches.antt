@@ -6,7 +6,7 @@ use Rattle.std.specs.{declared.cmp.Ordering.TheVariants.{Less}, Option.{MatchOpt
 use Rattle.fb_text.specs.Order.{name_cmp}
 use Rattle.fb_deploy.specs.{Library.Texts.{Held, held, text_in, text_at}, Parse.Source.{Written}, Library.Place.{IsAt, IsGapFor}}
 use Rattle.fb_deploy.proofs.{Library.Places.{greater}, Library.Searches.{Searched, searched as search_of}}
-use Rattle.fb_jobs.specs.{Reads.{Seen, read_names, read_texts, put_found}, Values.{all_seen, seen_of, found_in, IsOwn}, declared.read.Read.{Read}}
+use Rattle.fb_jobs.specs.{Reads.{Seen, read_names, read_texts, put_found}, Values.{all_seen, seen_of, found_in, IsOwn}, declared.keys.read.Read.{Read}}
 use Rattle.fb_jobs.proofs.SameNeeds.{at_itself}
 
 abbrev names : List Read → List (List ℕ)

@@ -2,10 +2,10 @@
 use Rattle.std.proofs.{Common.{◌≡◌, ℕ, Bool, true, false, List, [], refl, sym, ap, subst, ◌∙◌, None, All, get_or}, lemmas.List.Elements.{All-nil}}
 use Rattle.fb_deploy.specs.{Flatten.Far.{far_of}, Flatten.Nets.{net_at}, Library.Rests.{Rests}, Library.Texts.{Texts, sources_of}, Library.View.{Sources}}
 use Rattle.fb_deploy.proofs.{Flatten.FarNames.{far_is_all}, Library.WalkLemmas.{has-Contains}}
-use Rattle.fb_jobs.specs.{declared.hints.Hint.{Hint}, declared.key.Kind.{Kind}, declared.key.Key.{Key}, Hints.{IsNetOf, net_key}}
+use Rattle.fb_jobs.specs.{declared.kept.hints.Hint.{Hint}, declared.keys.key.Kind.{Kind}, declared.keys.key.Key.{Key}, Hints.{IsNetOf, net_key}}
 use Rattle.fb_jobs.specs.{Keys.{needs, needs_of, net_finding, scratch}, Kinds.{needs_all}, Reads.{IsRight, PlainJob, is_among, read_texts, stale}}
 use Rattle.fb_jobs.specs.{Values.{finding_of}, Work.{IsFoundFor, IsFoundIn}}
-use Rattle.fb_jobs.specs.declared.key.Kind.TheVariants as kind
+use Rattle.fb_jobs.specs.declared.keys.key.Kind.TheVariants as kind
 use Rattle.fb_jobs.proofs.{Currents.{agree_from_current, current_from_stale}, HintLemmas.{net_needed}, SameNeeds.{scratch_local}}
 
 rests_by : (kind : Kind) (sources : Sources) (unit n : List ℕ) → needs_all kind ≡ true → Rests sources unit n → is_among n (needs_of kind sources unit) ≡ true

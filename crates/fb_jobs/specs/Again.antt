@@ -1,7 +1,7 @@
 -- What is read of texts, and what is read again under the names of earlier reads.
 use Rattle.std.specs.{Prelude.{◌≡◌, List, All, Option}, List.{AllZip}, declared.sync.Arc.{Arc}, declared.alloc.Global.{Global}}
 use Rattle.fb_deploy.specs.{Library.Texts.{Texts}, Library.declared.filed.Version.{Version}}
-use Rattle.fb_jobs.specs.{declared.key.Key.{Key}, declared.read.Read.{Read}, Reuse.{MentionsTheSame}, Reads.{Seen, read_names, reads_for, reads_under}}
+use Rattle.fb_jobs.specs.{declared.keys.key.Key.{Key}, declared.keys.read.Read.{Read}, Reuse.{MentionsTheSame}, Reads.{Seen, read_names, reads_for, reads_under}}
 use Rattle.fb_jobs.specs.{Replaced.{unless_replaced}, Values.{all_seen, IsOwn}}
 
 -- what the key needs is read of the library, each source is of the name that it was read under, and these are the texts

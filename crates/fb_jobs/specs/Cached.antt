@@ -4,11 +4,11 @@ use Rattle.std.specs.{BTreeMap.{is_at}, List.{AllZip}, declared.sync.Arc.{Arc}, 
 use Rattle.std.specs.BTreeMap as tree
 use Rattle.fb_text.specs.Order.{name_cmp}
 use Rattle.fb_deploy.specs.{Library.Texts.{Texts}, Flatten.Blocking.{is_some_fault, is_some_name}, Flatten.Net.{PlainNet, blocked, plain_net}}
-use Rattle.fb_jobs.specs.{declared.hints.Hint.{Hint}, declared.cached.Cached.{Cached}, declared.cached.Judged.{Judged}, declared.key.Key.{Key}, declared.value.Value.{Value}}
-use Rattle.fb_jobs.specs.declared.value.Value.TheVariants.{Faults, Net, Deploy}
+use Rattle.fb_jobs.specs.{declared.kept.hints.Hint.{Hint}, declared.kept.cached.Cached.{Cached}, declared.kept.cached.Judged.{Judged}, declared.keys.key.Key.{Key}, declared.values.value.Value.{Value}}
+use Rattle.fb_jobs.specs.declared.values.value.Value.TheVariants.{Faults, Net, Deploy}
 use Rattle.fb_jobs.specs.{Keys.{Finding, FaultsFound, NetFound, DeployFound, NothingFound, has_key, scratch}, Reads.{Seen, read_names, read_texts, is_among}}
 use Rattle.fb_jobs.specs.{Hints.{AreHints, net_key}, Values.{finding_of}}
-use Rattle.fb_jobs.specs.declared.key.Kind.TheVariants as kind
+use Rattle.fb_jobs.specs.declared.keys.key.Kind.TheVariants as kind
 
 -- ---- nets
 

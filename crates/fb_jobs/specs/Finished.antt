@@ -1,8 +1,8 @@
 -- What each `Job` and each `Finished` keeps.
 use Rattle.std.specs.{Prelude.{◌≡◌, List, All}, declared.sync.Arc.{Arc}, declared.alloc.Global.{Global}}
 use Rattle.fb_jobs.specs.{Keys.{scratch}, Reads.{PlainJob, Seen, IsRight, read_texts}, Values.{finding_of, all_seen, IsOwn}, Cached.{IsCached}}
-use Rattle.fb_jobs.specs.{Work.{IsFoundFor}, declared.hints.Hint.{Hint}, declared.cached.Cached.{Cached}, declared.key.Key.{Key}, declared.read.Read.{Read}}
-use Rattle.fb_jobs.specs.declared.value.Value.{Value}
+use Rattle.fb_jobs.specs.{Work.{IsFoundFor}, declared.kept.hints.Hint.{Hint}, declared.kept.cached.Cached.{Cached}, declared.keys.key.Key.{Key}, declared.keys.read.Read.{Read}}
+use Rattle.fb_jobs.specs.declared.values.value.Value.{Value}
 
 abbrev pub plain_job : Key → List Read → PlainJob
 plain_job key reads = record { key = key; reads = all_seen reads }

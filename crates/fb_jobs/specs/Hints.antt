@@ -3,8 +3,8 @@ use Rattle.std.specs.{Prelude.{◌≡◌, ◌≢◌, ℕ, Bool, true, false, not
 use Rattle.std.specs.BTreeMap.{is_at}
 use Rattle.fb_text.specs.Order.{name_cmp}
 use Rattle.fb_deploy.specs.{Library.Texts.{Texts, sources_of}, Library.View.{tree_at}, Flatten.Tables.{is_subapplication_in}}
-use Rattle.fb_jobs.specs.declared.key.Kind.TheVariants as kind
-use Rattle.fb_jobs.specs.{declared.key.Key.{Key}, declared.hints.Hint.{Hint}, Keys.{Finding, needs, scratch}, Kinds.{needs_all}}
+use Rattle.fb_jobs.specs.declared.keys.key.Kind.TheVariants as kind
+use Rattle.fb_jobs.specs.{declared.keys.key.Key.{Key}, declared.kept.hints.Hint.{Hint}, Keys.{Finding, needs, scratch}, Kinds.{needs_all}}
 use Rattle.fb_jobs.specs.{Reads.{Seen, read_names, is_among}, Values.{finding_of}}
 pub use Rattle.fb_jobs.specs.Cache.{AreKept}
 

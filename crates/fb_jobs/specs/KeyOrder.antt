@@ -2,7 +2,7 @@
 use Rattle.std.specs.{Prelude.{ℕ, Bool}, declared.cmp.Ordering.{Ordering}, Ordering.{nat_cmp, on, then_cmp, is_eq}}
 use Rattle.std.specs.{Cmp.{IsTotalOrder, then_total, on_total, nat_cmp_total}, Cmp.Lexicographic.{nat_list_cmp_total}}
 use Rattle.fb_text.specs.Order.{name_cmp}
-use Rattle.fb_jobs.specs.{declared.key.Kind.{Kind}, declared.key.Kind.TheVariants.{Faults, Net, Deploy}, declared.key.Key.{Key}}
+use Rattle.fb_jobs.specs.{declared.keys.key.Kind.{Kind}, declared.keys.key.Kind.TheVariants.{Faults, Net, Deploy}, declared.keys.key.Key.{Key}}
 
 abbrev pub kind_number : Kind → ℕ
 kind_number Faults = 0

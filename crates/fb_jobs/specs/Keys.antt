@@ -3,7 +3,7 @@ use Rattle.std.specs.{Prelude.{ℕ, Bool, List, Option, Some, None, is_some}, Op
 use Rattle.fb_deploy.specs.{Library.Texts.{Texts, text_at, sources_of}, Library.View.{Sources, tree_of}, Library.Near.{near_of}}
 use Rattle.fb_deploy.specs.{Iface.declared.fault.Fault.{Fault}, Faults.Faults.{faults_of}, Flatten.Net.{PlainNet}, Flatten.Far.{far_of}}
 use Rattle.fb_deploy.specs.{Flatten.Nets.{has_net_in, net_at}, Deploy.{PlainDeploy}, Plans.{has_plan_in, plan_at}}
-use Rattle.fb_jobs.specs.{declared.key.Kind.{Kind}, declared.key.Kind.TheVariants.{Faults, Net, Deploy}, declared.key.Key.{Key}}
+use Rattle.fb_jobs.specs.{declared.keys.key.Kind.{Kind}, declared.keys.key.Kind.TheVariants.{Faults, Net, Deploy}, declared.keys.key.Key.{Key}}
 
 -- Whether a unit with this text, or with none, has a key of the kind: each unit has faults, a subapplication and a system have a net,
 -- and a system has a plan.

@@ -1,6 +1,6 @@
 -- All kinds of keys, in order, and the keys of names with each of them.
 use Rattle.std.specs.{Prelude.{ℕ, Bool, true, false, List, [], ◌∷◌, map, if◌then◌else◌}, List.{flat_map}}
-use Rattle.fb_jobs.specs.{declared.key.Kind.{Kind}, declared.key.Kind.TheVariants.{Faults, Net, Deploy}, declared.key.Key.{Key}}
+use Rattle.fb_jobs.specs.{declared.keys.key.Kind.{Kind}, declared.keys.key.Kind.TheVariants.{Faults, Net, Deploy}, declared.keys.key.Key.{Key}}
 
 -- the kinds, in order
 abbrev pub all_kinds : List Kind

@@ -1,7 +1,7 @@
 -- The keys of texts, and what changed names reach.
 use Rattle.std.specs.{Prelude.{◌≡◌, ℕ, Bool, false, List, filter, take, find, Option}, List.{list_any, enumerate_from}, Option.{option_map}}
 use Rattle.fb_deploy.specs.Library.Texts.{Texts, text_at, names_of}
-use Rattle.fb_jobs.specs.{declared.key.Key.{Key}, Keys.{has_key, needs}, Kinds.{all_keys}, Reads.{is_among}}
+use Rattle.fb_jobs.specs.{declared.keys.key.Key.{Key}, Keys.{has_key, needs}, Kinds.{all_keys}, Reads.{is_among}}
 
 -- the keys of the texts, in order
 abbrev pub keys_of : Texts → List Key

@@ -3,7 +3,7 @@ use Rattle.std.specs.Prelude.{◌≡◌, ℕ, Bool, true, false, ◌&&◌, not, 
 use Rattle.std.specs.{Cmp.Lexicographic.{pointwise}, Option.{option_map}, List.{list_any}, Ordering.{is_gt}, BTreeMap.{is_at}}
 use Rattle.fb_text.specs.Order.{name_cmp}
 use Rattle.fb_deploy.specs.Library.Texts.{Texts, Held, held, text_at}
-use Rattle.fb_jobs.specs.{declared.key.Key.{Key}, Keys.{has_key, needs}}
+use Rattle.fb_jobs.specs.{declared.keys.key.Key.{Key}, Keys.{has_key, needs}}
 
 pub record Seen : Type 0 where
   pub name : List ℕ

@@ -2,7 +2,7 @@
 use Rattle.std.specs.Prelude.{ℕ, List, [], ◌∷◌, ◌++◌, set, Option, Some, None}
 use Rattle.std.specs.{declared.sync.Arc.{Arc}, declared.alloc.Global.{Global}}
 use Rattle.fb_deploy.specs.{Library.Filed.{filed_text}, Library.declared.filed.Version.{Version}}
-use Rattle.fb_jobs.specs.{Reads.{Seen}, Texts.{there}, declared.texts.Replacement.{Replacement}}
+use Rattle.fb_jobs.specs.{Reads.{Seen}, Texts.{there}, declared.keys.texts.Replacement.{Replacement}}
 
 -- a text in place of what was read there
 abbrev pub replaced : List Seen → Replacement → List Seen

@@ -2,8 +2,8 @@
 use Rattle.std.specs.{Prelude.{◌≡◌, ◌⊎◌, ⊤, ℕ, Bool, true, false, List, Option, None, Some}, List.{AllZip}, Option.{option_and_then, option_map}}
 use Rattle.fb_deploy.specs.{Deploy.{plain_deploy}, Plans.{is_whole_plan}, Flatten.Hints.{is_whole_net}, Flatten.Net.{plain_net}, Library.Texts.{Held, text_in}}
 use Rattle.fb_deploy.specs.{Library.View.{mentions_of_tree, tree_of}, Flatten.Wiring.Local.{AreInterchangeableBlocks}}
-use Rattle.fb_jobs.specs.{declared.key.Key.{Key}, declared.value.Value.{Value}, declared.value.Value.TheVariants.{Faults, Net, Deploy}, Keys.{scratch}}
-use Rattle.fb_jobs.specs.{declared.read.Read.{Read}, Reads.{IsRight, Seen, read_texts}, Values.{all_seen, finding_of}}
+use Rattle.fb_jobs.specs.{declared.keys.key.Key.{Key}, declared.values.value.Value.{Value}, declared.values.value.Value.TheVariants.{Faults, Net, Deploy}, Keys.{scratch}}
+use Rattle.fb_jobs.specs.{declared.keys.read.Read.{Read}, Reads.{IsRight, Seen, read_texts}, Values.{all_seen, finding_of}}
 
 -- the value is that of what was read, from scratch
 pub record IsDerived (key : Key) (reads : List Seen) (value : Value) : Type 0 where

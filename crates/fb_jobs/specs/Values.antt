@@ -3,8 +3,8 @@ use Rattle.std.specs.{Prelude.{◌≡◌, ℕ, List, map, Option, Some, None}, O
 use Rattle.std.specs.declared.alloc.Global.{Global}
 use Rattle.fb_deploy.specs.{Library.Texts.{Held}, Library.Filed.{filed_text}, Library.declared.filed.Version.{Version}, Parse.Source.{Written}}
 use Rattle.fb_deploy.specs.{Flatten.Net.{plain_net}, Deploy.{plain_deploy}}
-use Rattle.fb_jobs.specs.{Keys.{Finding, FaultsFound, NetFound, DeployFound}, Reads.{Seen}, declared.read.Read.{Read}, declared.texts.TextRead.{TextRead}}
-use Rattle.fb_jobs.specs.{declared.value.Value.{Value}, declared.value.Value.TheVariants.{Faults, Net, Deploy}}
+use Rattle.fb_jobs.specs.{Keys.{Finding, FaultsFound, NetFound, DeployFound}, Reads.{Seen}, declared.keys.read.Read.{Read}, declared.keys.texts.TextRead.{TextRead}}
+use Rattle.fb_jobs.specs.{declared.values.value.Value.{Value}, declared.values.value.Value.TheVariants.{Faults, Net, Deploy}}
 
 abbrev pub found_in : ℕ → Option (Arc Written Global) → Option Held
 found_in revision None = None

@@ -4,8 +4,8 @@ use Rattle.std.specs.BTreeMap as tree
 use Rattle.std.specs.BTreeSet as set
 use Rattle.fb_text.specs.Order.{name_cmp}
 use Rattle.fb_deploy.specs.{Library.Rests.{Rests}, Library.Texts.{Texts}, Library.View.{Sources}, Flatten.Net.{PlainNet}, Flatten.Nets.{net_at}}
-use Rattle.fb_jobs.specs.{declared.hints.Hint.{Hint}, declared.cached.CachedNets.{CachedNets}, declared.computed.Worked.{Worked}, declared.key.Key.{Key}}
-use Rattle.fb_jobs.specs.{declared.key.Kind.{Kind}, declared.value.Value.{Value}, Hints.{IsNetOf}, Keys.{needs, net_finding, scratch_of}, Kinds.{needs_all}}
+use Rattle.fb_jobs.specs.{declared.kept.hints.Hint.{Hint}, declared.kept.cached.CachedNets.{CachedNets}, declared.jobs.computed.Worked.{Worked}, declared.keys.key.Key.{Key}}
+use Rattle.fb_jobs.specs.{declared.keys.key.Kind.{Kind}, declared.values.value.Value.{Value}, Hints.{IsNetOf}, Keys.{needs, net_finding, scratch_of}, Kinds.{needs_all}}
 use Rattle.fb_jobs.specs.{Cached.{hint_in}, Reads.{is_among}, Values.{finding_of}}
 
 -- what is known of nets, and of units without faults

@@ -2,7 +2,7 @@
 ghost use Rattle.std.specs.{Prelude.{◌≡◌, ℕ, List, None, Some}, List.{Contains}, List.Sorted.{IsStrictlySortedBy}};
 ghost use Rattle.fb_text.specs.Order.{name_cmp};
 ghost use Rattle.fb_deploy.specs.Library.Texts.{Texts};
-ghost use Rattle.fb_jobs.specs.{declared.key.Key.{Key}, declared.key.Kind.{Kind}, Hints.{IsNetOf}, KeyOrder.{kind_cmp}, declared.hints.Hint.{Hint}};
+ghost use Rattle.fb_jobs.specs.{declared.keys.key.Key.{Key}, declared.keys.key.Kind.{Kind}, Hints.{IsNetOf}, KeyOrder.{kind_cmp}, declared.kept.hints.Hint.{Hint}};
 ghost use Rattle.fb_jobs.specs.{Work.{IsFoundFor}, Kinds.{all_kinds}, Keys.{has_key, needs, scratch}};
 ghost use Rattle.fb_jobs.specs.Reads.{Agree, PlainJob, IsLeastStale, IsRight, read_names, read_texts, stale};
 

@@ -1,41 +1,28 @@
 //! Keys and values of entries, what is read for a key, and jobs that work on shared sources, with their results.
 #![tactic(auto)]
 
-mod cache;
-mod cached;
-mod computed;
-mod derivation;
-mod hints;
-mod job;
-mod kept_value;
-mod key;
-mod kinds;
+mod jobs;
+mod kept;
+mod keys;
 mod laws;
-mod read;
-mod read_list;
-mod reads;
-mod result;
-mod reuse;
-mod same;
-mod texts;
-mod value;
+mod values;
 
-pub use cache::Cache;
-pub use derivation::Derivation;
-pub use hints::Hint;
-pub use job::Job;
-pub use kept_value::KeptValue;
-pub use key::{Key, Kind};
-pub use kinds::{all_kinds, keys_by_name, keys_near_and_far};
+pub use jobs::job::Job;
+pub use jobs::result::Finished;
+pub use kept::cache::Cache;
+pub use kept::hints::Hint;
+pub use kept::kept_value::KeptValue;
+pub use keys::key::{Key, Kind};
+pub use keys::kinds::{all_kinds, keys_by_name, keys_near_and_far};
+pub use keys::read::{Read, has_key, has_net_and_plan};
+pub use keys::reads::needed;
+pub use keys::texts::{TextRead, TextReads};
 pub use laws::{
     current_nets, current_reads, kinds_in_order, least_stale, locality, needs_in_order,
 };
-pub use read::{Read, has_key, has_net_and_plan};
-pub use reads::needed;
-pub use result::Finished;
-pub use same::{is_one_name, is_same_value};
-pub use texts::{TextRead, TextReads};
-pub use value::Value;
+pub use values::derivation::Derivation;
+pub use values::same::{is_one_name, is_same_value};
+pub use values::value::Value;
 
 /// Of `fb_parse`, for the crates above.
 pub mod parse {

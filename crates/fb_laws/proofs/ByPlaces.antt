@@ -1,16 +1,16 @@
--- That a key is due, said by places.
+-- That a key is due, by places.
 use Rattle.fb_laws.proofs.Common.{◌≡◌, ◌↔◌, ℕ, zero, suc, ◌<◌, Bool, true, false, true≢false, ◌||◌, ◌&&◌, not, ◌⊎◌, inl, inr, List, [], ◌∷◌, Some, refl, sym, ap, ◌∙◌, arith, or_left, or_right, and_from, and_parts, not-true, none-some, same_Some, take, slice_get, false_from_ne_true, by_bool, ◌≤◌}
-use Rattle.fb_jobs.specs.declared.key.Key.{Key}
+use Rattle.fb_jobs.specs.declared.keys.key.Key.{Key}
 use Rattle.fb_history.specs.{Limits.{Bounds}, Machine.{State, Call, after}, BenchView.{BenchView, IsOrigin, replay}, Due.{marks, settles, settled, due}, Checkpoints.{checkpointed}}
 use Rattle.fb_laws.specs.DueByPlaces.{IsMarkedAt, IsSettledAt, IsMarkedLast, IsDueByPlaces, DueGoesOn}
 use Rattle.fb_history.proofs.{Dues.{pending_is_due}, Restarts.{goes_on, unseen}}
 
--- where places that come later pass a test, behind the first call and with it
+-- the cases in which later places pass a test, after the first call and with it
 module _ (test : State → Call → Key → Bool) (s : State) (c : Call) (cs : List Call) (k : Key) where
   abbrev IsAt : State → List Call → ℕ → Type 0
   IsAt s cs p = (c : Call) × (slice_get cs p ≡ Some c) × (test (replay s (take p cs)) c k ≡ true)
 
-  -- where the first call doesn't pass, and none behind it does, none does
+  -- if the first call doesn't pass, and none after it does, none does
   nowhere : test s c k ≡ false → ((p : ℕ) → IsAt (after s c) cs p → ⊥) → (p : ℕ) → IsAt s (c ∷ cs) p → ⊥
   unfolding replay
   nowhere fails none zero (d, at, is) = true≢false (sym is ∙ ap (λ x. test s x k) (sym (same_Some c d at)) ∙ fails)
@@ -31,7 +31,7 @@ abbrev Waits : Bool → State → List Call → Key → Type 0
 Waits pending s cs k = IsMarkedLast s cs k ⊎ IsLeft pending s cs k
 
 module _ (pending : Bool) (s : State) (c : Call) (cs : List Call) (k : Key) where
-  -- whether it is pending behind the first call
+  -- whether it is pending after the first call
   abbrev still : Bool
   still = marks s c k || (pending && not (settles s c k))
 

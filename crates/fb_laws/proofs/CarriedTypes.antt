@@ -3,7 +3,7 @@ use Rattle.fb_laws.proofs.Common.{arith, ◌≡◌, ℕ, Bool, true, false, true
 use Rattle.fb_laws.proofs.FirstLemmas.{got_among}
 use Rattle.fb_deploy.specs.Library.Seen.{has_name}
 
--- what a name stands for is declared, under some name
+-- what a name means is declared, under some name
 declared_among : {D : Type 0} (all : List (List ℕ × D)) (q : List ℕ) (d : D) → stands_for all q ≡ Some d → (name : List ℕ) × Contains all (name, d)
 declared_among all q d e = let o = place_from_lookup (λ declared. is_same declared q) all d e in (o.1, got_among all o.0 (o.1, d) o.2)
 
@@ -58,7 +58,7 @@ module _ (sources : Sources) where
     none_listed : (name : List ℕ) → is_elementary name ≡ true → has_name carried name ≡ false
     none_listed name elementary = false_from_ne_true (has_name carried name) (λ e. true≢false (sym elementary ∙ none_carried (((carried_is_all sources (bases_at sources unit)).1 name).0 (Contains-has name carried e)).2))
 
-    -- what may be named behind it, by its declaration
+    -- what may be named after it, by its declaration
     pub known_fields : (name : List ℕ) → IsKnown name → fields_near sources unit name ≡ cond (is_elementary name) NoFields (fields_of_tree (tree_at sources name))
     known_fields name known = grind (arith, none_listed, has-Contains)
 

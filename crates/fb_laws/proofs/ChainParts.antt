@@ -42,7 +42,7 @@ data After (view : View) (sort : Sort) (network : PlainNetwork) : End → Place 
   at_destination : (destination : End) → After view sort network destination (place_of destination) []
   enters : {name port : List ℕ} {inner : PlainNetwork} {to : Place} → IsInner view network name inner → (chain : Chain view sort inner (port ∷ []) to) → After view sort network (Of name port) (name ∷ to) (map (inside name) (passed_by chain))
 
--- it lies inside an instance, or passes one connection of the network itself
+-- it is inside an instance, or passes one connection of the network itself
 data Parts (view : View) (sort : Sort) (network : PlainNetwork) : Place → Place → List Passed → Type 0 where
   within : {name : List ℕ} {inner : PlainNetwork} {from to : Place} → IsInner view network name inner → (chain : Chain view sort inner from to) → Parts view sort network (name ∷ from) (name ∷ to) (map (inside name) (passed_by chain))
   across : {a b : Place} {before after : List Passed} (source destination : End) → IsConnected network sort source destination → Before view sort network a source before → After view sort network destination b after → Parts view sort network a b (before ++ (own source destination ∷ after))
@@ -94,7 +94,7 @@ none_own name (p ∷ list) = none_own name list
 crossed : {view : View} {sort : Sort} {network : PlainNetwork} {a b : Place} {before after : List Passed} (s d : End) → IsConnected network sort s d → IsBefore view sort network a s before → IsAfter view sort network d b after → CrossesOnce view sort network a b (before ++ (own s d ∷ after))
 crossed {before = before} {after = after} s d k p q = record { source = s; destination = d; connected = k; once = grind (arith, filter-append, none_own); before = before; after = after; whole = refl; is_before = p; is_after = q }
 
--- ---- chains behind links and borders
+-- ---- chains after links and borders
 
 no_chain_from_nothing : {view : View} {sort : Sort} {network : PlainNetwork} {a b : Place} → Chain view sort network a b → a ≡ [] → ⊥
 no_chain_from_nothing chain g = grind (arith, no_step_from_nothing)

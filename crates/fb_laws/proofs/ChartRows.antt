@@ -45,7 +45,7 @@ action_reported f chart s a fault listed written has = contains_flat_map (λ (s 
 stands_for_event : (side : Side) (ports : Meanings) (name : List ℕ) → event_among side ports name ≡ Found → StandsForEvent ports name side
 stands_for_event side ports name e = grind (arith, same_sides)
 
--- ports that are known are judged
+-- ports that are known are checked
 judged_among : (side : Side) (ports : Meanings) (name : List ℕ) → event_among side ports name ≢ NotChecked
 judged_among side ports name e = grind arith
 

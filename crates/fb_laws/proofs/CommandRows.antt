@@ -1,4 +1,4 @@
--- The commands of each resource, in words of their own.
+-- The commands of each resource, in other words.
 use Rattle.fb_laws.proofs.Common.{arith, ℕ, ◌≡◌, Bool, true, false, cond, List, [], ◌∷◌, ◌++◌, Option, Some, None, refl, sym, ◌∙◌, ap, map, filter, option_map, cons_option, bytes_eq, map-append, filter-append, IsStrictlySortedBy, IsStrictlySortedBy-filter, in_order-members, in_order-sorted, contains_filter, passes_in_filter, Link, same_home, nearest, connection_commands, connection_text, link_resource, command_cmp, command_cmp_total, commands_for, PlacedCommand, ResourceCommand, Contains, in_order, ◌≢◌, not, ◌||◌, subst, append_assoc, ◌==◌, true≢false, codes, filter_map, flat_map, eqb-false, not-true, or_cases, contains_flat_map, contains_map, contains_nothing, origin_in_flat_map, origin_in_map, DeclTree, Sources, text_or_empty, tree_at, link_cmp, home_at, block_home, PlainFlat, PlainResolved, path_names, resolved_at, applications_in, devices_in, Home, create_command, create_commands, create_text, home_commands, commands_at, write_command, write_commands, system_commands, start_text, dotted, PlainResource, resource_plan, resource_plans, resources_of, IsPlanned, AllBegin, BeginsWith, IsInOrder, IsWithin, MakesBlock, MakesItsBlocks, MakesItsLinks, NoneBegins, ResourcesHaveTheirCommands, SetsItsParameters, SetsParameter, StandsOnce, IsHome, ◌↔◌, bytes_decides}
 use Rattle.fb_laws.proofs.Lists.{iff}
 use Rattle.fb_laws.proofs.{HomeLemmas.{bytes_same, same_bytes, end_home, home_end, home_listed, mapped, nearest_of, of_home, of_nearest}, FirstLemmas.{at_contained}}
@@ -71,7 +71,7 @@ none_of start other commands d all command c p = let q = all command c in apart 
 begin_all : {X : Type 0} (start : List ℕ) (f : X → List ℕ) (xs : List X) → ((x : X) → Contains xs x → BeginsWith start (f x)) → AllBegin start (map f xs)
 begin_all start f xs each command c = let o = origin_in_map f xs command c in subst (λ (t : List ℕ). BeginsWith start t) o.gives (each o.origin o.among)
 
--- an item that stands once is kept once
+-- an item that occurs once is kept once
 none_kept : (r : List ℕ) (names : List (List ℕ)) → ¬ Contains names r → filter (λ (n : List ℕ). bytes_eq r n) names ≡ []
 none_kept r names absent =
     no_members (filter (λ (n : List ℕ). bytes_eq r n) names)

@@ -78,7 +78,7 @@ pub use Rattle.fb_types.proofs.Network.NearestLemmas.{is_nearest}
 pub use Rattle.fb_types.specs.{Applications.{applications_of, plain_application}, Network.Clean.{IsClean, IsCleanThroughout, side_at}, Networks.{instance_in_role, network_of, plain_instance}}
 pub use Rattle.fb_types.specs.{Network.Places.{dotted}, Network.LinkOrder.{link_cmp}, Network.declared.network.Instance.{Instance}, Network.FlatNet.{IsFlat}, Network.Printed.{printed}}
 pub use Rattle.fb_types.specs.{ByName.{applications_at, declared, kind_at}, Network.Prefixes.{IsPrefix, IsNearest, nearest}, Network.SystemFlat.{IsSystemFlat, application_blocks}}
-pub use Rattle.fb_types.specs.{declared.systems.Application.{Application}, Network.declared.network.InstanceKind.{InstanceKind}, Network.declared.application.FlatApplication.{FlatApplication}}
+pub use Rattle.fb_types.specs.{declared.systems.Application.{Application}, Network.declared.network.InstanceKind.{InstanceKind}, Network.declared.flat.application.FlatApplication.{FlatApplication}}
 pub use Rattle.fb_types.specs.{Network.Composed.{block_within}, Network.Network.{BlockPort, Chain, IsBorderPlace, IsConnected, IsInner, IsLeafPlace, LeafWithin, More, One, Place, Step, View, Within}}
 pub use Rattle.fb_types.specs.{Network.Plain.{PlainNetwork}, Network.Instances.{AreBlocks, AreInstances, Held, NoInstance, ThenBlock, ThenSubapplication, held_as, held_within, leaf_first, leaves_of}}
 pub use Rattle.fb_types.specs.Units.{AreFlatApplications, IsFlatApplication, IsUnitFlat, IsWithinLimit, NoApplication, OfSubapplication, OfSystem, ThenApplication, own_instances}

@@ -4,13 +4,13 @@ use Rattle.fb_text.specs.Reads.{AtBlank, AtComment, AtEnd, AtLineComment, AtOpen
 use Rattle.fb_text.proofs.Relation.{reads-one, reads-tokens}
 use Rattle.fb_laws.proofs.Lists.{nothing_split}
 
--- Tokens one behind the other
+-- Tokens one after the other
 
 abbrev pub Rising : ℕ → List Token → Type 0
 Rising from [] = Unit {0}
 Rising from (t ∷ ts) = (from ≤ t.span.start) × (t.span.start < t.span.end) × Rising t.span.end ts
 
--- the last of them ends there, which is the place before them where there are none
+-- the last of them ends there; without tokens this is the place before them
 abbrev pub LastEnds : ℕ → List Token → ℕ → Type 0
 LastEnds from [] end = end ≡ from
 LastEnds from (t ∷ ts) end = LastEnds t.span.end ts end
@@ -27,7 +27,7 @@ rising_from : (from later : ℕ) (ts : List Token) → from ≤ later → Rising
 rising_from from later [] h r = tt
 rising_from from later (t ∷ ts) h r = (omega (arith, h, r.0), r.1, r.2)
 
--- the tokens behind the first
+-- the tokens after the first
 rest_of : (token : Token) (following : Result (List Token) Span) (ts : List Token) → with_token token following ≡ Ok ts → (us : List Token) × (ts ≡ token ∷ us) × (following ≡ Ok us)
 rest_of token following ts e = grind arith
 
@@ -71,13 +71,13 @@ first_close after inside rest behind ys e close = record {
 
 -- Cuts
 
--- a token that stands so many bytes nearer to the begin
+-- a token that is this number of bytes nearer to the start
 abbrev pub nearer_token : ℕ → Token → Token
 nearer_token d t = record { kind = t.kind; span = record { start = t.span.start - d; end = t.span.end - d } }
 
 -- Texts by gaps and tokens
 
--- blanks and comments of n bytes, which are passed in front of each part of what stands behind them
+-- blanks and comments of n bytes, which are passed before each part of what follows them
 abbrev Passes : ℕ → List ℕ → List ℕ → Type 0
 Passes n us rest = (p : ℕ) (zs ys : List ℕ) (reading : Result (List Token) Span) → rest ≡ zs ++ ys → Reads (p + n) zs reading → Reads p (us ++ zs) reading
 
@@ -166,7 +166,7 @@ cut {q} {text} (Then n kind others pos starts e more) p d xs ys (t ∷ ts) behin
 
 -- The place of a token
 
--- the text that is left where a token stands
+-- the text that is left at the place of a token
 record Reached (q : ℕ) (text : List ℕ) (t : Token) (others : List Token) : Type 0 where
   len : ℕ
   place : q + len ≡ t.span.start
@@ -191,7 +191,7 @@ reach {q} {text} (Then n kind us pos starts e more) (u ∷ before) t others h =
     let tail : us ≡ before ++ t ∷ others = cc in
     reached_token n q text t others (reach more before t others tail)
 
--- The tokens of a text from where one of them begins to where that one or a later one ends
+-- The tokens of a text from the start of one of them to the end of that one or a later one
 
 pub rising_inside : (text : List ℕ) (before inside behind : List Token) (t : Token) → tokens_of text ≡ Ok (before ++ ((t ∷ inside) ++ behind)) → Rising t.span.start (t ∷ inside)
 rising_inside text before inside behind t e =

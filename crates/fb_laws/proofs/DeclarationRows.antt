@@ -26,7 +26,7 @@ Has Literal = HasMisfit
 Has StructRecursive = HasSelfCarrying
 Has code = λ sources unit span. ⊥
 
--- names behind WITH
+-- names after WITH
 
 withs_by_type : (decl : DeclTree) → with_faults_of decl ≡ option_map_or (λ d. with_faults d.interface) (type_in decl) []
 withs_by_type decl = grind (arith, block_type)

@@ -2,7 +2,7 @@
 use Rattle.fb_laws.proofs.Common.{arith, ◌≡◌, refl, ap, ◌∙◌, Span, Expression, literal_expression, reference_expression, unary_expression, row_expression, parentheses, Operands, no_operands, operand_then, BinaryUse, span_of, IsLast, only, later, StandsAt, no_row, across, span_through}
 use Rattle.fb_laws.specs.Places.{literal, reference, operator, row, enclosed}
 
--- the last of these operands, where there is one
+-- the last of these operands, if one is there
 data Ending : Operands → Type 0 where
   no_end : Ending no_operands
   ending : {operands : Operands} (x : Expression) (s : Span) → IsLast x operands → StandsAt x s → ((a : Span) → span_through a operands ≡ across a s) → Ending operands

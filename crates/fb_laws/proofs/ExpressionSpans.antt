@@ -4,7 +4,7 @@ use Rattle.fb_laws.proofs.Sound.{Fills, begins_more, ends_more, written_whole, E
 
 -- Lists
 
--- the parts of the items of a list, where those of the whole are told otherwise
+-- the parts of the items of a list, if those of the whole are stated otherwise
 pub flat_parts : {A : Type 0} (f : A → List Part) (whole : List A → List Part) → whole [] ≡ [] → ((x : A) (xs : List A) → whole (x ∷ xs) ≡ f x ++ whole xs) → (xs : List A) → flat_map f xs ≡ whole xs
 flat_parts f whole none more [] = sym none
 flat_parts f whole none more (x ∷ xs) = ap (λ (l : List Part). f x ++ l) (flat_parts f whole none more xs) ∙ sym (more x xs)

@@ -60,7 +60,7 @@ module _ {D : Type 0} where
       let listed = subst (λ (k : ℕ). Contains (enumerate_from 0 xs) (k, (name, m))) start (at_place 0 xs o.place (name, m) o.there) in
       contains_map (λ (p : ℕ × (List ℕ × D)). p.1) (filter (is_first xs) (enumerate_from 0 xs)) (o.place, (name, m)) (contains_filter (is_first xs) (enumerate_from 0 xs) (o.place, (name, m)) listed (ap is_none (before_none xs o.place name o.first)))
 
-  -- what a name stands for among the first declarations
+  -- what a name means among the first declarations
   pub stands_first : (xs : List (List ℕ × D)) (name : List ℕ) (m : D) → stands_for (first_ones xs) name ≡ Some m → IsFirst xs name m
   stands_first xs name m e =
       let o = place_from_lookup (λ declared. is_same declared name) (first_ones xs) m e in

@@ -19,7 +19,7 @@ pub record IsFound {X Y : Type 0} (key : X → List ℕ) (value : X → Y) (xs :
 pub found_in : {X Y : Type 0} (key : X → List ℕ) (value : X → Y) (xs : List X) (name : List ℕ) (y : Y) → first_at key value xs name ≡ Some y → IsFound key value xs name y
 found_in key value xs name y e = grind (arith, by_option, find, bytes_eq, passes_in_find, same_bytes)
 
--- the same as what names stand for
+-- the same as what names mean
 pub same_found : {X Y : Type 0} (key : X → NameUse) (value : X → Y) (xs : List X) (name : List ℕ) → first_at (λ (x : X). (key x).name) value xs name ≡ stands_for (map (λ (x : X). ((key x).name, value x)) xs) name
 same_found key value [] name = refl
 same_found {X = X} {Y = Y} key value (z ∷ xs) name = grind (arith, bytes_eq, option_map, find, same_itself, same_bytes, bytes_same, same_exact, same_found key value xs name)
@@ -110,7 +110,7 @@ module _ (sources : Sources) (system : List ℕ) (blocks : List FlatBlock) (all 
             absurd (omega (arith, short, longer, ap length w.placed))),
       )
 
-  -- some block stands in front of the end
+  -- some block is before the end
   pub some_home : (end : List ℕ) (b : FlatBlock) → Contains blocks b → IsPrefix b.path end → (r : List ℕ) × StandsOn sources system blocks end r
   some_home end b c prefix =
       by_option (nearest homes end) (λ none. absurd (nothing_at b c (subst (λ (o : Option (List ℕ)). IsNearest homes end o) none (is_nearest homes end) b.path prefix))) (λ r e. (r, end_home end r e))

@@ -7,11 +7,11 @@ use Rattle.std.proofs.{lemmas.List.{get_or-take, length-take}, lemmas.List.Folds
 pub of_either : {X : Type 0} {P : X → Type 0} (a b : List X) → ((y : X) → Contains a y → P y) → ((y : X) → Contains b y → P y) → (y : X) → Contains (a ++ b) y → P y
 of_either {P = P} a b left right y c = elim (Contains-append_cases a b y c) [ inl h ↦ left y h | inr h ↦ right y h ]
 
--- and of the first one, and of those behind it
+-- and of the first one, and of those after it
 pub of_first : {X : Type 0} {P : X → Type 0} (x : X) (xs : List X) → P x → ((y : X) → Contains xs y → P y) → (y : X) → Contains (x ∷ xs) y → P y
 of_first {P = P} x xs first later y c = elim (contains_cases x xs y c) [ inl e ↦ subst P e first | inr h ↦ later y h ]
 
--- a list, and others behind it
+-- a list, and others after it
 abbrev pub joined : {X : Type 0} → List X → List (List X) → List X
 joined first [] = first
 joined first (next ∷ others) = joined (first ++ next) others
@@ -60,7 +60,7 @@ pub nothing_split : {A : Type 0} (before : List A) (x : A) (after : List A) → 
 nothing_split [] x after e = let fails : ⊥ = cc in fails
 nothing_split (y ∷ before) x after e = let fails : ⊥ = cc in fails
 
--- what stands at a place splits the list
+-- the item at a place splits the list
 pub split_at : {A : Type 0} (xs : List A) (j : ℕ) (x : A) → slice_get xs j ≡ Some x → (after : List A) × (xs ≡ take j xs ++ x ∷ after)
 split_at [] j x e = absurd (let fails : ⊥ = cc in fails)
 split_at (y ∷ xs) zero x e = let same : y ≡ x = cc in (xs, ap (λ z. z ∷ xs) same)

@@ -12,7 +12,7 @@ Has code = λ sources unit span. ⊥
 abbrev mapping_path : MappingTree → PathUse
 mapping_path m = path_of_names m.path
 
--- where a path stands
+-- the place of a path
 
 last_there : (first : NameUse) (others : List NameUse) → slice_get (first ∷ others) (length others) ≡ Some (last_of first others)
 last_there first [] = refl

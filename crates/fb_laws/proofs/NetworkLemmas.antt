@@ -66,11 +66,11 @@ module _ (sources : Sources) (unit : List ℕ) (here : Site) (n : NetworkTree) (
 pub connection_reported : (sources : Sources) (unit : List ℕ) (o : ConnectionOf sources unit) {code : Code} {span there : Span} → span ≡ there → Contains (connection_faults (place_at sources o.here o.network) o.connection) (record { code = code; span = there }) → Contains (net_faults_of sources unit) (record { code = code; span = span })
 connection_reported sources unit o place has = reported sources unit o.here o.network o.stands 0 _ refl place (contains_flat_map (connection_faults (place_at sources o.here o.network)) o.network.connections o.connection _ o.listed has)
 
--- the instances of a network are among what its names stand for
+-- the instances of a network are among what its names mean
 pub own_instances : (sources : Sources) (unit : List ℕ) (here : Site) (n : NetworkTree) → IsNetworkOf sources unit here n → here.own.instances ≡ first_ones (instances_in n)
 own_instances sources unit here n stands = grind (arith, of_block)
 
--- where ends stand
+-- the places of ends
 
 pub end_place : (e : End) → end_span e ≡ place_of e
 end_place e = elim e.port as (λ port. end_span (record { name = e.name; port = port }) ≡ place_of (record { name = e.name; port = port })) [ None ↦ refl | Some p ↦ refl ]

@@ -1,4 +1,4 @@
--- The blocks of a system's flat network are those that stand at its paths.
+-- The blocks of a system's flat network are those at its paths.
 use Rattle.fb_laws.proofs.Common.{arith, ◌≡◌, ℕ, List, [], ◌∷◌, ◌++◌, Option, Some, None, inl, inr, refl, sym, ap, ◌∙◌, subst, append_assoc, option_map, filter_map, flat_map, Contains-append_cases, contains_cases, contains_flat_map, contains_here, contains_later, contains_map, contains_nothing, origin_in_flat_map, origin_in_map, ApplicationTree, DeclTree, InstanceTree, SystemTree, subapplication_type, Role, Sources, tree_at, HasFlat, plain_application, declared, instance_in_role, network_of, plain_instance, AreFlatApplications, Application, block_within, AreInstances, Held, NoInstance, ThenBlock, ThenSubapplication, held_as, held_within, leaves_of, View, PlainNetwork, PlainFlat, printed, dotted, IsSystemFlat, application_blocks, FlatApplication, FlatBlock, Instance, InstanceKind, IsSystemAt, IsAtPath, in_application, inside, with_points, Contains, map, Path}
 use Rattle.fb_laws.proofs.{Lists.{given, gives_member}, PathHomes.{some_more}, PathTexts.{same_print}, PlanEnds.{application_of, flat_of, inner_held, instance_held, leaf_listed}}
 use Rattle.fb_types.proofs.Network.Equals.{printed-within}
@@ -24,7 +24,7 @@ among_plain instances i kind c role = gives_member plain_instance instances i (i
 
 -- ---- from paths to what is held
 
--- the instances that stand between these names and a further one
+-- the instances between these names and a further one
 record HeldBelow (view : View) (list : List Held) (between : Path) (instances : List Instance) : Type 0 where
   own : List Held
   are : AreInstances view instances own
@@ -65,7 +65,7 @@ is_in sources s path end (inside {path = before} {outer = outer} type i at role 
 
 -- ---- from what is held to paths
 
--- an instance of this kind and type stands at the path
+-- an instance of this kind and type is at the path
 pub record StandsAs (sources : Sources) (s : SystemTree) (path : Path) (kind : InstanceKind) (typed : List ℕ) : Type 0 where
   pub instance : InstanceTree
   pub at : IsAtPath sources s path instance
@@ -115,13 +115,13 @@ leaf_origin (h ∷ hs) b c = grind (arith, contains_later, contains_here, contai
 
 -- ---- the blocks of the system
 
--- what stands at the path of a block
+-- what is at the path of a block
 pub record BlockStands (sources : Sources) (s : SystemTree) (b : FlatBlock) : Type 0 where
   pub path : Path
   pub block : StandsAs sources s path Block b.type_name
   pub place : with_points path ≡ b.path
 
--- the flat network has the blocks that stand at paths, and no others
+-- the flat network has the blocks that are at paths, and no others
 pub record BlocksStand (sources : Sources) (s : SystemTree) (flat : PlainFlat) : Type 0 where
   pub listed : (path : Path) (i : InstanceTree) → IsAtPath sources s path i → i.role ≡ roles.Block → Contains flat.blocks (record { path = with_points path; type_name = i.type_name.name })
   pub stands : (b : FlatBlock) → Contains flat.blocks b → BlockStands sources s b

@@ -1,10 +1,10 @@
--- The units whose texts have what stands at the paths of a sound system: these have no faults, so each name stands for one instance of theirs.
+-- The units whose texts have what is at the paths of a sound system: these have no faults, so each name means one instance of theirs.
 use Rattle.fb_laws.proofs.Common.{◌≡◌, ℕ, true, List, ◌∷◌, ◌++◌, Option, Some, refl, sym, ◌∙◌, subst, flat_map, Contains-append_left, Contains-append_right, NameUse, contains_flat_map, contains_here, contains_later, contains_map, contains_nothing, instance_types, types_in, unit_kind_of, ApplicationTree, DeclTree, DeviceTree, InstanceTree, SystemTree, TypeTree, subapplication_type, system_configuration, PartRests, on_itself, Sources, parts_at, parts_in, tree_at, chart_spaces, interface_spaces, network_spaces, resource_names, instances_of, suits, WrongKind, Fault, IsSound, parts_more, unit_faultless, sound_below, first_at, IsSystemAt, IsAtPath, in_application, inside, Contains, map, in_order_has, true_from_ne_false, arith, map-append, ap, Subapplication, []}
 use Rattle.fb_laws.proofs.{DeclarationRows.{not_suited, wrong_kinds}, HomeLemmas.{same_found}}
 use Rattle.fb_deploy.specs.Flatten.Nothing.{HasNoReport}
 use Rattle.fb_deploy.proofs.{Flatten.NameLemmas.{AreApart, apart, distinct, stands_for_itself}, Flatten.NothingLemmas.{nothing_reported}}
 
--- ---- names that stand once
+-- ---- names that occur once
 
 -- an item is the first of its name
 pub first_own : {X Y : Type 0} (key : X → NameUse) (value : X → Y) (xs : List X) → AreApart (map key xs) → (x : X) → Contains xs x → first_at (λ (y : X). (key y).name) value xs (key x).name ≡ Some (value x)

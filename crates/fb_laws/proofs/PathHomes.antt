@@ -1,9 +1,9 @@
--- The names of paths, and the home of what stands at a path: the resource of the nearest mapping of it or above it.
+-- The names of paths, and the home of what is at a path: the resource of the nearest mapping of it or above it.
 use Rattle.fb_laws.proofs.Common.{arith, ◌≢◌, ℕ, List, [], ◌∷◌, ◌++◌, Contains-append_left, Contains-append_right, NameUse, contains_flat_map, contains_here, contains_later, contains_map, InstanceTree, MappingTree, NetworkTree, SystemTree, TypeTree, subapplication_type, system_configuration, Sources, IsSystemAt, IsAtPath, in_application, inside, path_of, Part, application_parts, name_part, network_parts, tree_parts, Contains, All-cons, All-contains_itself, All-map, All-nil, All-push, All-weaker, ◌≡◌, ◌+◌, ◌≤◌, length, take, Some, None, sym, ap, ◌∙◌, subst, refl, option_map, find, bytes_eq, dec_lt, false_from_ne_true, contains_nothing, on_itself, MappedTwice, Fault, IsSound, IsPrefix, IsNearest, mapping_home, mapping_path, resource_at, place_of_path, IsAbove, IsMappedTo, with_points, Path}
 use Rattle.fb_laws.proofs.{PathTexts.{IsPlain, name_in_unit, ArePlain, goes_on, prefix_has_name, prefix_of, same_names, same_print, text_lengths}, FirstLemmas.{at_contained}}
 use Rattle.fb_laws.proofs.{HomeLemmas.{bytes_same, found_in, same_bytes}, Lists.{by_option, first_found, split_at}, MappingRows.{own_paths}, PathHolders.{no_report}}
 
--- ---- where names stand in trees
+-- ---- the places of names in trees
 
 in_network : (n : NetworkTree) (i : InstanceTree) → Contains n.instances i → Contains (network_parts n) (name_part i.name)
 in_network n i c = search (Contains-append_left, contains_flat_map, contains_here)
@@ -62,7 +62,7 @@ module _ (sources : Sources) (unit : List ℕ) (s : SystemTree) (is : IsSystemAt
     above_prefix : (m : MappingTree) → IsAbove m path → IsPrefix (mapping_path m) (with_points path)
     above_prefix m h = grind (arith, same_print, prefix_of)
 
-    -- what has a resource in front of the path is a mapping above it
+    -- what has a resource before the path is a mapping above it
     found_above : (prefix r : List ℕ) → IsPrefix prefix (with_points path) → resource_at s.mappings prefix ≡ Some r
         → (m : MappingTree) × Contains s.mappings m × IsAbove m path × (mapping_path m ≡ prefix) × (mapping_home m ≡ r)
     found_above prefix r is_prefix has =
@@ -103,6 +103,6 @@ module _ (sources : Sources) (unit : List ℕ) (s : SystemTree) (is : IsSystemAt
           names = f.4;
         }
 
-    -- where no mapping is of it or above it
+    -- if no mapping is of it or above it
     pub not_mapped : IsNearest (resource_at s.mappings) (with_points path) None → (m : MappingTree) → Contains s.mappings m → ¬ IsAbove m path
     not_mapped none m c h = absurd (let no : None ≡ Some (mapping_home m) = sym (none (mapping_path m) (above_prefix m h)) ∙ mapped_there m c in cc)

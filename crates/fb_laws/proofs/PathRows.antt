@@ -1,4 +1,4 @@
--- What is made where, and what is misplaced, by what stands at the paths of a system and what its mappings name.
+-- What is made where, and what is misplaced, by what is at the paths of a system and what its mappings name.
 use Rattle.fb_laws.proofs.Common.{arith, ◌≡◌, ◌≢◌, ◌↔◌, ℕ, List, [], ◌∷◌, ◌++◌, Option, Some, None, inl, inr, refl, sym, ap, ◌∙◌, subst, map, true≢false, codes, append_cancel_left, Contains-append_cases, Contains-append_left, contains_map, origin_in_map, DeclTree, InstanceTree, SystemTree, system_configuration, Sources, tree_at, faulty, planned, planned_by, HasFlat, IsNet, PlainNet, plan_at_is, PlainFlat, FlatBlock, Link, IsNearest, nearest, misplaced, create_text, resource_at, PlainResource, leads_nowhere, mappings_in, Misplaced, NoSuchBlock, Unmapped, PlacedCommand, is_nearest, IsSystemAt, IsAtPath, IsMappedTo, IsMisplaced, MakesMapped, MisplacedIsTold, NothingPlannedIsMisplaced, making, of_nothing, path_of, unmapped, with_points, IsHome, IsPlanned, BeginsWith, MakesItsBlocks, Contains, Path, true_from_ne_false, Block, plan_at}
 use Rattle.fb_laws.proofs.{CommandRows.{blocks_made}, PlanRows.{homes_have}, HomeLemmas.{of_nearest}, Lists.{by_option}, PathBlocks.{BlocksStand, system_blocks}}
 use Rattle.fb_laws.proofs.{PathHomes.{home_there, mapped_to, not_mapped, path_plain}, PathStanding.{of_something, somewhere}}
@@ -10,7 +10,7 @@ use Rattle.fb_laws.specs.Paths.{IsMade}
 flat_planned : (sources : Sources) (unit : List ℕ) (cuts : List Link) (resources : List PlainResource) (net : PlainNet) → IsNet sources unit net → planned cuts resources ≡ planned_by sources unit net → (flat : PlainFlat) × HasFlat sources unit flat
 flat_planned sources unit cuts resources net is e = grind arith
 
--- a plan that tells what is misplaced, of a system with this flat network
+-- a plan that names what is misplaced, of a system with this flat network
 record IsFaulty (sources : Sources) (unit : List ℕ) (found : List Misplaced) : Type 0 where
   flat : PlainFlat
   is_flat : HasFlat sources unit flat

@@ -1,11 +1,11 @@
--- Where names lead to in a sound system is what stands at their path.
+-- Where names lead to in a sound system is what is at their path.
 use Rattle.fb_laws.proofs.Common.{arith, ◌≡◌, ◌≢◌, ℕ, Bool, false, not, List, [], ◌∷◌, ◌++◌, Option, Some, refl, sym, ap, ◌∙◌, subst, append_assoc, append-nil, true≢false, is_none, contains_nothing, ApplicationTree, DeclTree, InstanceTree, SystemTree, subapplication_type, Sources, tree_at, IsSound, PlainResolved, application_called, inner_instances, is_placed, leads_nowhere, resolved_among, resolved_at, resolved_beyond, resolved_inside, IsSystemAt, IsAtPath, IsOfSomething, in_application, inside, of_application, Contains, option_and_then, Path}
 use Rattle.fb_laws.proofs.{Lists.{by_option}, HomeLemmas.{found_in}, PathHolders.{applications_apart, first_own, holder_of, instances_apart, is_subapplication, type_apart, type_below}}
 use Rattle.fb_placing.proofs.ResolvedLemmas.{at_more, beyond_nothing}
 use Rattle.fb_laws.specs.Paths.{of_block, of_subapplication}
 use Rattle.fb_placing.specs.Resolved.{resolved_from, resolved_in}
 
--- ---- from names to what stands there
+-- ---- from names to what is there
 
 module _ (sources : Sources) (unit : List ℕ) (s : SystemTree) (is : IsSystemAt sources unit s) (sound : IsSound sources unit) where
   step_in : (path : Path) (i : InstanceTree) → IsAtPath sources s path i → (name : List ℕ) (j : InstanceTree) (tree : Option DeclTree) → tree_at sources i.type_name.name ≡ tree → Contains (inner_instances tree) j → j.name.name ≡ name → IsAtPath sources s (path ++ name ∷ []) j

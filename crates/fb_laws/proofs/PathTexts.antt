@@ -70,11 +70,11 @@ same_print (x ∷ (y ∷ others)) = ap (λ (rest : List ℕ). x ++ 46 ∷ rest) 
 
 -- ---- the names of a text
 
--- what stands between bytes
+-- what is between bytes
 abbrev parts : ℕ → List ℕ → Path
 parts c text = slice_split (λ (b : ℕ). b == c) text
 
--- a part without the byte, and what stands behind the byte
+-- a part without the byte, and what follows the byte
 part_then : (c : ℕ) (name rest : List ℕ) → (c == c) ≡ true → Without c name → parts c (name ++ c ∷ rest) ≡ name ∷ parts c rest
 part_then c name rest here none = slice_split_at (λ (b : ℕ). b == c) name c rest none here
 
@@ -85,7 +85,7 @@ names_of (first ∷ (next ∷ others)) some h =
     part_then 46 first (with_points (next ∷ others)) refl (All-head IsPlain first (next ∷ others) h).no_points
     ∙ ap (λ (names : Path). first ∷ names) (names_of (next ∷ others) (λ e. cc) (All-tail IsPlain first (next ∷ others) h))
 
--- a text of names, and what stands behind a point
+-- a text of names, and what follows a point
 prefix_names : (path : Path) (rest : List ℕ) → path ≢ [] → ArePlain path → parts 46 (with_points path ++ 46 ∷ rest) ≡ path ++ parts 46 rest
 prefix_names [] rest some h = absurd (some refl)
 prefix_names (first ∷ []) rest some h =
@@ -95,9 +95,9 @@ prefix_names (first ∷ (next ∷ others)) rest some h =
     ∙ part_then 46 first (with_points (next ∷ others) ++ 46 ∷ rest) refl (All-head IsPlain first (next ∷ others) h).no_points
     ∙ ap (λ (names : Path). first ∷ names) (prefix_names (next ∷ others) rest (λ e. cc) (All-tail IsPlain first (next ∷ others) h))
 
--- ---- paths that go on from others
+-- ---- paths that continue others
 
--- a text that stands in front of a path by whole names has names
+-- a text that is before a path by whole names has names
 pub prefix_has_name : (path : Path) → path ≢ [] → ArePlain path → ¬ IsPrefix [] (with_points path)
 prefix_has_name [] some h prefix = some refl
 prefix_has_name (first ∷ others) some h (inl e) =
@@ -118,7 +118,7 @@ prefix_of [] inner some = absurd (some refl)
 prefix_of (first ∷ others) [] some = inl (ap with_points (append-nil (first ∷ others)))
 prefix_of (first ∷ others) (name ∷ names) some = grind (arith, flat_map-append, append_assoc)
 
--- of two paths that one goes on from, the one with more names is the longer text, by a byte for each name at least
+-- of two paths that one continues, the one with more names is the longer text, by a byte for each name at least
 pointed_lengths : (a b inner more : Path) → a ++ inner ≡ b ++ more → length a ≤ length b → length (pointed a) + length b ≤ length (pointed b) + length a
 pointed_lengths [] [] inner more e h = omega arith
 pointed_lengths [] (y ∷ ys) inner more e h = let rest = pointed_lengths [] ys (ys ++ more) more refl (omega arith) in omega (arith, length-append y (pointed ys))

@@ -79,7 +79,7 @@ leaf_listed (h ∷ hs) path typed c =
       | inr d ↦ (elim h.kind as (λ k. Contains (leaf_first k h (leaves_of hs)) it) [ Block ↦ contains_later (record { path = printed h.path; type_name = h.typed }) (leaves_of hs) it (leaf_listed hs path typed d) | Subapplication ↦ leaf_listed hs path typed d ])
     ]
 
--- ---- blocks in front of ends
+-- ---- blocks before ends
 
 pub record HasPrefix (blocks : List FlatBlock) (end : List ℕ) : Type 0 where
   pub block : FlatBlock

@@ -93,7 +93,7 @@ module _ (sources : Sources) (system : List ℕ) (flat : PlainFlat) (cuts : List
   abbrev Stands : List ℕ → List ℕ → Type 0
   Stands = StandsOn sources system flat.blocks
 
-  -- the resources on which the ends of a link stand
+  -- the resources of the ends of a link
   end_homes : (link : Link) → Contains flat.links link → (a : List ℕ) × (b : List ℕ) × Stands link.from a × Stands link.to b
   end_homes link c =
       let ends = net_prefixes sources system flat p.is_flat link c in

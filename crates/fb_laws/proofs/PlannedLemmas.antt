@@ -52,7 +52,7 @@ module _ (sources : Sources) (system : List ℕ) (tree : Option DeclTree) (block
       (λ b c none. no_home b c (by_option (nearest (resource_at (mappings_in tree)) b.path) (λ e. e) (λ r e. absurd (let no : ⊥ = cc in no)))))
       (passed (λ (p : List ℕ). NoSuchBlock p) mapping_path nowhere (mappings_in tree) (IsAstray sources system tree blocks) nothing_there)
 
-  -- where nothing is misplaced
+  -- if nothing is misplaced
   pub none_astray : misplaced sources system tree blocks ≡ [] → (item : Misplaced) → ¬ IsAstray sources system tree blocks item
   none_astray nothing item a = contains_nothing item (subst (λ (l : List Misplaced). Contains l item) nothing (told item a))
 
@@ -88,7 +88,7 @@ known sources system flat cuts resources p = by (misplaced sources system (tree_
 pub links_sorted : (sources : Sources) (unit : List ℕ) (flat : PlainFlat) → HasFlat sources unit flat → IsStrictlySortedBy link_cmp flat.links
 links_sorted sources unit flat is = let net = is.2 in grind arith
 
--- what stands at a path has one home
+-- what is at a path has one home
 pub one_home : BlocksHaveOneHome
 one_home sources system path a b p q = let same = one_nearest (mapped sources system) path (Some a) (Some b) p q in cc
 

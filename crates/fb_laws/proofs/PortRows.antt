@@ -12,7 +12,7 @@ module _ {X Y : Type 0} (f : X → List Y) where
   number_of (x ∷ xs) (suc row) column = length (f x) + number_of xs row column
   number_of xs row column = column
 
-  -- what stands at a place of the rows
+  -- what is at a place of the rows
   pub record IsAt (xs : List X) (row column : ℕ) (y : Y) : Type 0 where
     pub item : X
     pub row_there : slice_get xs row ≡ Some item
@@ -177,7 +177,7 @@ pub come_as_declared : PortsComeAsDeclared
 come_as_declared decl type (of_block d) = in_order type
 come_as_declared decl type is = in_order type
 
--- a name stands in one section
+-- a name is in one section
 one_section : (i : InterfaceTree) (name : List ℕ) (a b : Section) (t u : TypeUse) → IsVariableIn i a name t → IsVariableIn i b name u → a ≡ b
 one_section i name a b t u v w = let rows = cases_order v.place.row w.place.row in grind (arith, in_earlier_row)
 

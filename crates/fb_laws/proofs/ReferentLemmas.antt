@@ -1,4 +1,4 @@
--- What references stand for by the check: what they begin at, what their further names lead to, and which of these are no fields.
+-- What references mean by the check: what they begin at, what their further names lead to, and which of these are no fields.
 use Rattle.fb_laws.proofs.Common.{◌≡◌, ℕ, Bool, true, false, true≢false, cond, not, List, [], ◌∷◌, ◌++◌, Option, Some, None, ◌⊎◌, refl, sym, ap, subst, ◌∙◌, append-nil, arith, option_and_then, ltb-false, or_parts, is_elementary, ReferenceTree, TypeTree, adapter_type, block_type, Section, TypeForm, TypeUse, Role, Plug, Socket, Member, Sources, tree_at, class_of_name, is_free, Fields, NoFields, fields_of_tree, stands_for, Meanings, meanings_in_type, instance_ports, ports_of, usable, DeclaredInstance, DeclaredVariable, stands_for-first_ones, is_known, referent_through, Names, names_of_type, data_referent, fields_behind, fields_named, is_before_port, is_data, is_some_count, member_among, own_referent, port_named, port_referent, referent_of, step, unless_judged, variable_named, walk, Referent, Variable, Unjudged, NoMember, IsAdapter, IsUsable, as_plug, as_socket, IsData, IsAtPort, Begins, own, IsOfNoAdapter, Shows, plain, element, IsOpen, generic, unknown, HasField, GoesOn, at_end, through, NamesType, append_assoc, false_from_ne_true, Expressions, reference_expression, IsWrittenIn, HasUnknownMember, is_field, is_met, names_field, DeclTree, structure_type, ◌||◌, not-false}
 use Rattle.fb_laws.proofs.{CarriedTypes.{IsKnown, data_known, field_known, known_fields, own_known}, UsableTypes.{known_type, own_type}}
 use Rattle.fb_deploy.specs.Iface.Fields.{NotChecked}
@@ -13,7 +13,7 @@ not_free : (name : List ℕ) → is_elementary name ≡ false → is_free (class
 unfolding is_elementary
 not_free name e = grind arith
 
--- whether a subscript stands on a plain type
+-- whether a subscript is on a plain type
 abbrev shown : Bool → Fields → Fields
 shown false fields = fields
 shown true fields = unless_judged fields
@@ -43,7 +43,7 @@ module _ (sources : Sources) (unit : List ℕ) (d : TypeTree) (declared : tree_a
 
   -- One further name
 
-  -- what may be named behind a type that needs a declaration, by this
+  -- what may be named after a type that needs a declaration, by this
   abbrev declared_fields : List ℕ → Fields
   declared_fields name = cond (is_elementary name) NoFields (fields_of_tree (tree_at sources name))
 
@@ -59,7 +59,7 @@ module _ (sources : Sources) (unit : List ℕ) (d : TypeTree) (declared : tree_a
   told_field : (used : TypeUse) (s : Bool) (m : Member) (v : DeclaredVariable) → Known used → HasField sources used s m.name.name v → step names (Variable used s) m ≡ Variable v.type_use (is_some_count m.subscripts)
   told_field used s m v known h = grind (arith, behind_shown, named_known, not_free, stands_for-first_ones)
 
-  -- what a further name stands for
+  -- what a further name means
   data Looks (used : TypeUse) (s : Bool) (m : Member) : Referent → Type 0 where
     is_open : IsOpen sources used s → Looks used s m Unjudged
     is_none : Looks used s m (NoMember m.name.span)
@@ -69,7 +69,7 @@ module _ (sources : Sources) (unit : List ℕ) (d : TypeTree) (declared : tree_a
     abbrev name : List ℕ
     name = used.name.name
 
-    -- by whether a subscript stands there, whether the type is generic, whether it is elementary, and its declaration
+    -- by whether a subscript is there, whether the type is generic, whether it is elementary, and its declaration
     by_type : (s on free elementary : Bool) (o : Option DeclTree) → Shows used s on → is_free (class_of_name name) ≡ free → is_elementary name ≡ elementary → tree_at sources name ≡ o → Looks used s m (member_among (shown on (cond free NotChecked (cond elementary NoFields (fields_of_tree o)))) m)
     by_type s false true elementary o shows f e t = is_open (generic false shows f)
     by_type s true true elementary o shows f e t = is_open (generic true shows f)
@@ -135,7 +135,7 @@ module _ (sources : Sources) (unit : List ℕ) (d : TypeTree) (declared : tree_a
   port_found : (r : ReferenceTree) (m : Member) (behind : List Member) → r.members ≡ m ∷ behind → is_before_port names.scope r.name.name r.subscripts ≡ true → (i : DeclaredInstance) × IsAtPort d r i m behind
   port_found r m behind second e = grind (arith, ltb-false)
 
-  -- what a reference begins at, the names of that behind the first one, and the further ones
+  -- what a reference begins at, the names of that after the first one, and the further ones
   data Starts (r : ReferenceTree) : Referent → List Member → List Member → Type 0 where
     at_first : ((i : DeclaredInstance) (m : Member) (behind : List Member) → ¬ IsAtPort d r i m behind) → Starts r (variable_named names.scope r.name.name (is_some_count r.subscripts)) [] r.members
     at_second : (i : DeclaredInstance) (m : Member) (behind : List Member) → IsAtPort d r i m behind → Starts r (port_named names.scope r.name.name m) (m ∷ []) behind
@@ -153,7 +153,7 @@ module _ (sources : Sources) (unit : List ℕ) (d : TypeTree) (declared : tree_a
   parts : {r : ReferenceTree} {base : Referent} {skipped behind : List Member} → Starts r base skipped behind → r.members ≡ skipped ++ behind
   parts {r} {base} {skipped} {behind} starts = grind arith
 
-  -- behind what it begins at a reference is walked through
+  -- after what it begins at a reference is walked through
   walked : {r : ReferenceTree} {base : Referent} {skipped behind : List Member} → Starts r base skipped behind → (before others : List Member) → behind ≡ before ++ others → referent_through names r (skipped ++ before) ≡ walk names base before
   walked (at_first none) [] others parted = refl
   walked {r = r} (at_first none) (m ∷ ms) others parted =
@@ -233,7 +233,7 @@ module _ (sources : Sources) (unit : List ℕ) (d : TypeTree) (declared : tree_a
 
   -- Further names that are no fields
 
-  -- one further name behind those before it
+  -- one further name after those before it
   next_name : {r : ReferenceTree} {base : Referent} {skipped behind : List Member} → Starts r base skipped behind → (before : List Member) (m : Member) (others : List Member) → behind ≡ before ++ m ∷ others → referent_through names r ((skipped ++ before) ++ m ∷ []) ≡ step names (walk names base before) m
   next_name {r = r} {base = base} {skipped = skipped} starts before m others parted =
       ap (referent_through names r) (append_assoc skipped before (m ∷ []))
@@ -272,7 +272,7 @@ module _ (sources : Sources) (unit : List ℕ) (d : TypeTree) (declared : tree_a
         by (at_second i p rest at) (b ∷ bs) parted is fails =
             lost_in (at_second i b (bs ++ m ∷ others) (record { stands = at.stands; adapter = at.adapter; plain = at.plain; second = parted })) bs refl is fails
 
-  -- a name that is no field, where it is judged
+  -- a name that is no field, if it is checked
   no_field : {used : TypeUse} {on : Bool} {m : Member} {t : Referent} → Looks used on m t → ¬ IsOpen sources used on → ((v : DeclaredVariable) → ¬ HasField sources used on m.name.name v) → is_field t ≡ false
   no_field (is_open o) judged none = absurd (judged o)
   no_field is_none judged none = refl

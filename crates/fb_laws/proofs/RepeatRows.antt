@@ -1,4 +1,4 @@
--- Ends that stand twice, by what the list of faults has.
+-- Ends that occur twice, by what the list of faults has.
 use Rattle.fb_laws.proofs.Common.{arith, ◌≡◌, ℕ, List, [], ◌∷◌, ◌++◌, map, ◌⊎◌, inl, inr, refl, sym, ap, ◌∙◌, subst, Contains, flat_map, Contains-append_left, Contains-append_right, Contains-append_cases, Span, NetworkTree, Connection, End, Sort, Sources, Code, SecondAdapter, SecondSource, Fault, ComesThrough, contains_cases, contains_flat_map, contains_here, contains_later, contains_nothing, contains_single, origin_in_flat_map, Position, Source, Destination, Path, fault_at_path, repeated_faults, adapter_ends, data_destination, end_path, path_named, second_adapters, second_sources, HaveSameNames, IsEndOf, IsNetworkOf, Site, place_of, source, destination, HasSecondAdapter, HasSecondSource, IsTaken, by_earlier, by_source, option_map, ◌↔◌}
 use Rattle.fb_laws.proofs.{Lists.{iff, nothing_split, split_through, through_split}, NetworkLemmas.{Finds, end_place, fault_at_end}, RepeatedPaths.{repeat_origin, repeat_reported}}
 use Rattle.fb_tree.specs.declared.network.Sort.TheVariants as sorts
@@ -68,7 +68,7 @@ source_reported h =
 abbrev both_ends : Connection → List End
 both_ends c = adapter_ends c.sort c.source c.destination
 
--- an end in the list of both, by what stands before it
+-- an end in the list of both, by what is before it
 data IsPart (s d : End) (inside : List End) (e : End) : Type 0 where
   at_source : inside ≡ [] → s ≡ e → IsPart s d inside e
   at_destination : inside ≡ s ∷ [] → d ≡ e → IsPart s d inside e
@@ -100,7 +100,7 @@ both_is c e = ap (λ s. adapter_ends s c.source c.destination) e
 both_have : (c : Connection) (position : Position) (e : End) → c.sort ≡ sorts.Adapter → IsEndOf c position e → Contains (both_ends c) e
 both_have c position e is end = grind (arith, both_is, contains_here, contains_later)
 
--- what stands around an end in the list of both
+-- what is around an end in the list of both
 around : (c : Connection) (position : Position) (e : End) → IsEndOf c position e → (inside : List End) × (rest : List End) × (c.source ∷ c.destination ∷ [] ≡ inside ++ e ∷ rest)
 around c Source e source = ([], c.destination ∷ [], refl)
 around c Destination e destination = (c.source ∷ [], [], refl)

@@ -1,4 +1,4 @@
--- Paths that stand twice in a list.
+-- Paths that occur twice in a list.
 use Rattle.fb_laws.proofs.Common.{◌≡◌, ℕ, ◌+◌, true, false, ◌||◌, length, List, [], ◌∷◌, ◌++◌, map, take, inl, inr, refl, sym, ap, ◌∙◌, subst, true≢false, arith, nat_cmp-IsAntisymmetric, slice_cmp-IsAntisymmetric, Contains, enumerate_from, slice_get, take-append_seam, Code, Fault, at_place, in_places, contains_cases, contains_filter, contains_here, contains_later, contains_map, contains_nothing, got_in_map, map_gets, origin_in_map, passes_in_filter, Path, PathUse, fault_at_path, has_path, is_repeated, repeated, repeated_faults, same_path, filter}
 use Rattle.fb_laws.proofs.Lists.{at_split, split_at}
 use Rattle.std.specs.Ordering.{is_eq}

@@ -1,4 +1,4 @@
--- Parts that are written among tokens, values that keep where the tokens stand that spell them, and forms whose parts are written.
+-- Parts that are written among tokens, values that keep the places of the tokens that spell them, and forms whose parts are written.
 use Rattle.fb_laws.proofs.Common.{arith, ℕ, List, [], ◌∷◌, ◌++◌, sym, ap, ◌∙◌, append_assoc, AllByRecursion, Span, Lexeme, Part, part_span, BeginsAt, EndsAt, SpellsPart, IsWritten, append-nil, ◌≡◌, inl, inr, Option, Some, None, refl, subst, Form, one, both, either, option, as_value, Spells, SpellsOption, across, behind, name, Kind, map, flat_map, NameUse, many, SpellsEach, key, before, optional_list, cons, separated, names, is_among, name_kinds, name_use, name_part, mark_part, name_parts, option_parts, mark, true, flat_map-append}
 use Rattle.fb_deploy.proofs.Library.OnShelves.{each}
 use Rattle.fb_sections.specs.Sections.{section, optional_name}
@@ -13,7 +13,7 @@ pub ends_more : (us vs : List Lexeme) (place : ℕ) → EndsAt vs place → Ends
 ends_more [] vs place h = h
 ends_more (u ∷ us) vs place h = let later = ends_more us vs place h in grind arith
 
--- the tokens begin where the span begins, and end where it ends
+-- the tokens begin with the span, and end with it
 pub record Fills (us : List Lexeme) (span : Span) : Type 0 where
   pub begins : BeginsAt us span.start
   pub ends : EndsAt us span.end
@@ -50,7 +50,7 @@ each_left us vs ps h = each (IsWritten us) (IsWritten (us ++ vs)) (grind (arith,
 pub each_right : (us vs : List Lexeme) (ps : List Part) → Each (IsWritten vs) ps → Each (IsWritten (us ++ vs)) ps
 each_right us vs ps h = each (IsWritten vs) (IsWritten (us ++ vs)) (written_right us vs) ps h
 
--- the tokens that spell a value begin and end where it stands
+-- the tokens that spell a value begin and end at its place
 pub record Filled {A : Type 0} (x : Form A) (span : A → Span) : Type 0 where
   pub fills : (us : List Lexeme) (v : A) → Spells x us v → Fills us (span v)
 
@@ -87,7 +87,7 @@ fills_both us prefix rest s e begins ends = subst (λ (z : List Lexeme). Fills z
 pub filled_across : {A B : Type 0} (x : Form A) (y : Form B) (f : A → Span) (g : B → Span) → Filled x f → Ends y g → Filled (both x y) (λ v. across (f v.0) (g v.1))
 filled_across x y f g h k = record { fills = λ us v s. fills_both us s.0 s.1 (across (f v.0) (g v.1)) s.2 (h.fills s.0 v.0 s.3).begins (k.ends s.1 v.1 s.4) }
 
--- x [y], through y where it is written
+-- x [y], through y if y is written
 module _ {A B : Type 0} (x : Form A) (y : Form B) (f : A → Span) (g : B → Span) (span : A × Option B → Span) (alone : (a : A) → span (a, None) ≡ f a) (more : (a : A) (b : B) → span (a, Some b) ≡ across (f a) (g b)) where
   fills_more : Filled x f → Ends y g → (us prefix rest : List Lexeme) (a : A) (b : Option B) → us ≡ prefix ++ rest → Spells x prefix a → SpellsOption (Spells y) rest b → Fills us (span (a, b))
   fills_more h k us prefix rest a None e s none = grind (arith, append-nil)
@@ -96,7 +96,7 @@ module _ {A B : Type 0} (x : Form A) (y : Form B) (f : A → Span) (g : B → Sp
   pub filled_more : Filled x f → Ends y g → Filled (both x (option y)) span
   filled_more h k = record { fills = λ us v s. fills_more h k us s.0 s.1 v.0 v.1 s.2 s.3 s.4 }
 
--- [x] y, from x where it is written
+-- [x] y, from x if x is written
 module _ {A B : Type 0} (x : Form A) (y : Form B) (f : A → Span) (g : B → Span) (span : Option A × B → Span) (alone : (b : B) → span (None, b) ≡ g b) (more : (a : A) (b : B) → span (Some a, b) ≡ across (f a) (g b)) where
   fills_from : Filled x f → Filled y g → (us prefix rest : List Lexeme) (a : Option A) (b : B) → us ≡ prefix ++ rest → SpellsOption (Spells x) prefix a → Spells y rest b → Fills us (span (a, b))
   fills_from h k us prefix rest None b e none t = grind arith
@@ -146,7 +146,7 @@ stands_each x f h us (v ∷ vs) s = grind (arith, each_append, each_left, each_r
 pub sound_many : {A : Type 0} (x : Form A) (f : A → List Part) → Sound x f → Sound (many x) (flat_map f)
 sound_many x f h = record { stands = stands_each x f h }
 
--- the parts are others, which stand where those stand
+-- the parts are others, at the places of those
 pub sound_same : {A : Type 0} (x : Form A) (f g : A → List Part) → ((P : Part → Type 0) (v : A) → Each P (f v) → Each P (g v)) → Sound x f → Sound x g
 sound_same x f g same h = record { stands = λ us v s. same (IsWritten us) v (h.stands us v s) }
 
@@ -189,7 +189,7 @@ unfolding name
 sound_name_of kinds within =
     sound_own (as_value name_use (one kinds)) name_part (λ _. []) (λ us n s. (s.0, (s.1.0, within s.0.kind s.1.1), s.2)) (filled_as name_use _ (λ n. n.span) (filled_token _)) (sound_nothing _)
 
--- parts of names that are written one behind the other
+-- parts of names that are written one after the other
 pub sound_named : (x : Form (List NameUse)) → Sound x (flat_map name_parts) → Sound x (map name_part)
 sound_named x h = subst (Sound x) (λ i ns. flat_map_single name_part ns i) h
 

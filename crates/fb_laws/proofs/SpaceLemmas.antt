@@ -37,7 +37,7 @@ known (subapplication_type d) space c = known_type (subapplication_type d) d (of
 known (system_configuration s) space c = known_system s space c
 known (structure_type s) space c = inl (subst (IsSpace (structure_type s)) (contains_single (flat_map (λ (v : VariablesTree). v.names) s.fields) space c) (fields s))
 
--- what the function lists, where it has a name
+-- what the function lists, if a name is there
 pub known_space : (decl : DeclTree) (space : List NameUse) (place : ℕ) (name : NameUse) → Contains (spaces_of decl) space → slice_get space place ≡ Some name → IsSpace decl space
 known_space decl space place name c at = grind (arith, known)
 

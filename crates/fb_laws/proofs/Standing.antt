@@ -6,7 +6,7 @@ use Rattle.fb_text.proofs.{Boundaries.{piece-fits}, Reading.{HasRead, start, aft
 use Rattle.fb_laws.proofs.UnitSpans.{sound_unit}
 use Rattle.fb_structured_text.proofs.Forms.NameWords.{names as names_are_words}
 
--- the tokens lie in the text one behind the other, and each has the form of its kind
+-- the tokens are in the text one after the other, and each has the form of its kind
 pub record AreTokens (text : List ℕ) (tokens : List Token) : Type 0 where
   pub within : All (λ t. LiesIn text t.span) tokens
   pub spelled : All (IsSpelled text) tokens
@@ -16,7 +16,7 @@ module _ (text : List ℕ) (utf8 : IsUtf8 text) (tokens : List Token) (are : tok
   at_end : (ts : List Token) (place : ℕ) → HasRead text ts place → length text ≤ place → AreTokens text tokens
   at_end ts place read done = grind (arith, all-read)
 
-  -- one piece is read, and what is read then tells the tokens
+  -- one piece is read, and what is read then shows the tokens
   past_piece : (ts : List Token) (place : ℕ) → HasRead text ts place → place < length text
       → ((us : List Token) (n : ℕ) → 0 < n → HasRead text us (place + n) → AreTokens text tokens)
       → (piece : Piece) → piece_at (drop place text) ≡ piece → FitsIn (drop place text) piece → AreTokens text tokens
@@ -41,7 +41,7 @@ module _ (text : List ℕ) (utf8 : IsUtf8 text) (tokens : List Token) (are : tok
 
 -- Spans that rise
 
--- one of the spans is not empty, and begins at that place or behind it
+-- one of the spans is not empty, and begins at that place or after it
 pub rise_at : (from end : ℕ) (ss : List Span) (s : Span) (k : ℕ) → SpansRise from end ss → k < length ss → slice_index_or ss k s ≡ s → (from ≤ s.start) × (s.start < s.end)
 rise_at from end [] s k rise within e = absurd (omega arith)
 rise_at from end (t ∷ ss) s zero rise within e = subst (λ (z : Span). (from ≤ z.start) × (z.start < z.end)) e (rise.0, rise.1)
@@ -67,7 +67,7 @@ spelled_word bytes other word short = grind (arith, ok_name, nat_lt, str_to_asci
 
 -- Tokens
 
--- where tokens as the grammar sees them stand
+-- the places of tokens as the grammar sees them
 abbrev spans : List Lexeme → List Span
 spans us = map (λ l. l.span) us
 

@@ -11,7 +11,7 @@ block_parts ss = statements_parts (statements_of ss)
 abbrev arm_parts : Expression × List Statement → List Part
 arm_parts a = expression_parts a.0 ++ block_parts a.1
 
--- statements one behind the other, kept as a block
+-- statements one after the other, kept as a block
 sound_block : (x : Form (List Statement)) → Sound x (flat_map statement_parts) → Sound x block_parts
 sound_block x h = sound_same x (flat_map statement_parts) block_parts (λ P v e. subst (Each P) (flat_parts statement_parts block_parts refl (λ s ss. refl) v) e) h
 

@@ -44,7 +44,7 @@ sound_algorithm =
 each_both : (P : Part → Type 0) (ps qs : List Part) → Each P (ps ++ qs) ↔ (Each P ps × Each P qs)
 each_both P ps qs = (λ h. (each_prefix P ps qs h, each_rest P ps qs h), λ h. each_append P ps qs h.0 h.1)
 
--- what holds of the parts of each section, and stays so where one more is joined
+-- what holds of the parts of each section, and stays so if one more is joined
 each_section : {C : Type 0} (P : Part → Type 0) (parts : C → List Part) (whole : List C → C) → Each P (parts (whole [])) → ((c : C) (others : List C) → Each P (parts c) → Each P (parts (whole others)) → Each P (parts (whole (c ∷ others)))) → (all : List C) → Each P (flat_map parts all) → Each P (parts (whole all))
 each_section P parts whole none more [] h = none
 each_section P parts whole none more (c ∷ others) h = more c others (each_prefix P (parts c) (flat_map parts others) h) (each_section P parts whole none more others (each_rest P (parts c) (flat_map parts others) h))
@@ -57,7 +57,7 @@ contents_parts c = interface_parts c.interface ++ (network_parts c.network ++ ch
 each_joined : (P : Part → Type 0) (all : List ContentsTree) → Each P (flat_map contents_parts all) → Each P (contents_parts (joined all))
 each_joined P = each_section P contents_parts joined tt (λ c others h k. let first = simp each_both at h in let rest = simp each_both at k in simp (flat_map-append, each_both) assumption)
 
--- items with nothing behind them
+-- items with nothing after them
 sound_of : {A C : Type 0} {x : Form A} {f : A → List Part} (parts : C → List Part) (of : A → C) → Sound x f → ((v : A) → f v ≡ parts (of v)) → Sound (as_value of x) parts
 sound_of {x = x} {f = f} parts of h same = sound_as of x parts (sound_same x f (λ v. parts (of v)) (λ P v. subst (Each P) (same v)) h)
 

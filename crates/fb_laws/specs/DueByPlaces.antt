@@ -1,6 +1,6 @@
 -- When a key waits, stated only by places in the list of calls.
 use Rattle.std.specs.Prelude.{◌≡◌, ℕ, ◌<◌, true, ◌⊎◌, ◌↔◌, List, Some, take, slice_get}
-use Rattle.fb_jobs.specs.declared.key.Key.{Key}
+use Rattle.fb_jobs.specs.declared.keys.key.Key.{Key}
 use Rattle.fb_history.specs.{Limits.{Bounds}, Machine.{State, Call}, BenchView.{BenchView, replay}, Due.{marks, settles, due_from, is_due}, Checkpoints.{checkpointed}}
 
 -- the call at a place, and that it marks the key where the calls before it have led

@@ -1,6 +1,6 @@
 //! Laws of the machine in other words.
 ghost use Rattle.std.specs.Prelude.{List};
-ghost use Rattle.fb_jobs.specs.declared.key.Key.{Key};
+ghost use Rattle.fb_jobs.specs.declared.keys.key.Key.{Key};
 ghost use Rattle.fb_history.specs.{Limits.{Bounds}, Machine.{State, Call}, BenchView.{BenchView, IsOrigin}};
 ghost use Rattle.fb_laws.specs.DueByPlaces.{IsDueByPlaces, DueGoesOn};
 

@@ -1,6 +1,6 @@
 -- Checkpoints of a full history under a lock, and keys that are out since a take.
 use Rattle.std.specs.Prelude.{◌≡◌, ◌<◌, ◌⊎◌, ◌++◌, ◌∷◌, [], ℕ, Bool, true, false, List, Option, Some, None, Result, Ok, Err}
-use Rattle.fb_bench.specs.{Jobs.declared.key.Key.{Key}, Jobs.KeyOrder.{same_key}, Jobs.Reads.{PlainJob}, History.Checkpoints.{checking, checkpointed, ChecksAs}}
+use Rattle.fb_bench.specs.{Jobs.declared.keys.key.Key.{Key}, Jobs.KeyOrder.{same_key}, Jobs.Reads.{PlainJob}, History.Checkpoints.{checking, checkpointed, ChecksAs}}
 use Rattle.fb_bench.specs.{History.Limits.{Bounds}, History.Machine.{ToGiveBack}}
 use Rattle.fb_bench.specs.History.BenchView.{Record, BenchView, IsFull, all_turns, last_number, record_numbered, state_of}
 use Rattle.fb_bench.specs.{History.declared.answers.CheckpointRefused.{CheckpointRefused}, Requests.{job_of}}

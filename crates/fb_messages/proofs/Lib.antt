@@ -1,6 +1,2 @@
-pub mod BoundsRead
-pub mod Changes
 pub mod Entries
-pub mod Members
-pub mod Printed
-pub mod RequestReads
+pub mod Rules

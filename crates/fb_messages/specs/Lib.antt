@@ -2,11 +2,7 @@
 pub mod Requests
 pub mod RequestView
 pub mod Replies
-pub mod NetReplies
-pub mod DeployReplies
-pub mod ReadReplies
 pub mod ReplyView
-pub mod Small
 pub mod Tokens
 -- Of the crates below, for the crates above.
 pub use Rattle.fb_jobs.specs as Jobs

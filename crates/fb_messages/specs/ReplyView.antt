@@ -3,8 +3,7 @@ use Rattle.std.specs.Prelude.{ℕ, List, codes}
 use Rattle.serde_json.specs.Data.{Data}
 use Rattle.fb_jobs.specs.Values.{finding_of}
 use Rattle.fb_history.specs.Reads.{showing_in}
-use Rattle.fb_messages.specs.ReadReplies.{showing_said}
-use Rattle.fb_messages.specs.Replies.{checkpointed, committed, delivered, job_given, no_job, pending_said, refused, refused_base, refused_unit, returned, value_said, work_done, work_refused}
+use Rattle.fb_messages.specs.Replies.{checkpointed, committed, delivered, job_given, no_job, pending_said, refused, refused_base, refused_unit, returned, showing_said, value_said, work_done, work_refused}
 use Rattle.fb_messages.specs.declared.reply.Reply.{Reply}
 use Rattle.fb_messages.specs.declared.reply.Reply.TheVariants.{Checkpointed, Committed, Delivered, Found, GivenBack, Job, NoJob, Pending, Refused, RefusedUnit, Shown, StaleBase, WorkRefused, Worked}
 use Rattle.fb_messages.specs.declared.reply.Refusal.{Refusal}

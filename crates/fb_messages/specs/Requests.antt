@@ -1,7 +1,7 @@
 -- The request that a line is.
 use Rattle.std.specs.{Prelude.{ℕ, [], ◌∷◌, ◌&&◌, Bool, if◌then◌else◌, List, None, Option, Some, bytes_eq, codes, nat_le, option_and_then, option_map}, Str.{is_utf8}}
 use Rattle.fb_history.specs.Limits.{Bounds}
-use Rattle.fb_jobs.specs.{declared.key.Kind.{Kind}, declared.key.Kind.TheVariants.{Deploy, Faults, Net}}
+use Rattle.fb_jobs.specs.{declared.keys.key.Kind.{Kind}, declared.keys.key.Kind.TheVariants.{Deploy, Faults, Net}}
 use Rattle.serde_json.specs.{Data.{Data, Items, item, no_items}, Read.{read}, Find.{as_array, as_number, as_str, as_u64, get}}
 
 -- a change of a commit, before its name is read
@@ -42,8 +42,8 @@ kind_called text =
     else (if bytes_eq text (codes "net") then Some Net
     else (if bytes_eq text (codes "deploy") then Some Deploy else None))
 
-abbrev pub kind_at : List ℕ → Data → Option Kind
-kind_at name d = option_and_then kind_called (member_text name d)
+abbrev pub kind_in : Data → Option Kind
+kind_in d = option_and_then kind_called (member_text (codes "kind") d)
 
 -- ---- the changes of a commit
 
@@ -73,13 +73,9 @@ changes_of (item d ds) = option_and_then (λ change. option_map (λ changes. cha
 abbrev pub commit_in : Data → Option Request
 commit_in d = option_map commit (option_and_then changes_of (option_and_then as_array (get (codes "changes") d)))
 
--- ---- requests
-
-abbrev pub ask_in : Data → Option Request
-ask_in d = option_and_then (λ kind. option_map (ask kind) (member_text (codes "unit") d)) (kind_at (codes "kind") d)
-
-abbrev pub give_back_in : Data → Option Request
-give_back_in d = option_and_then (λ kind. option_map (give_back kind) (member_text (codes "unit") d)) (kind_at (codes "kind") d)
+-- what these make of the kind and the unit
+abbrev pub with_key : {A : Type 0} → (Kind → List ℕ → A) → Data → Option A
+with_key make d = option_and_then (λ kind. option_map (make kind) (member_text (codes "unit") d)) (kind_in d)
 
 -- 1 to 1,000 turns
 abbrev pub work_of : ℕ → Option Request
@@ -103,12 +99,6 @@ units_after (Some after) = option_map (λ name. units_read (Some name)) (as_str 
 abbrev pub units_in : Data → Option Reading
 units_in d = units_after (get (codes "after") d)
 
-abbrev pub text_in : Data → Option Reading
-text_in d = option_map text_read (member_text (codes "unit") d)
-
-abbrev pub peek_in : Data → Option Reading
-peek_in d = option_and_then (λ kind. option_map (entry_read kind) (member_text (codes "unit") d)) (kind_at (codes "kind") d)
-
 -- a wait of at most 30,000 milliseconds
 abbrev pub watch_of : ℕ → ℕ → Option Reading
 watch_of after wait = if nat_le wait 30000 then Some (events_read after wait) else None
@@ -120,25 +110,25 @@ abbrev pub reading_by : List ℕ → Data → Option Reading
 reading_by op d =
     if bytes_eq op (codes "status") then Some status_read
     else (if bytes_eq op (codes "units") then units_in d
-    else (if bytes_eq op (codes "text") then text_in d
-    else (if bytes_eq op (codes "peek") then peek_in d
+    else (if bytes_eq op (codes "text") then option_map text_read (member_text (codes "unit") d)
+    else (if bytes_eq op (codes "peek") then with_key entry_read d
     else (if bytes_eq op (codes "watch") then watch_in d else None))))
 
 -- ---- all requests; reads only if the desk answers them
 
-abbrev pub request_by : (has_reads : Bool) → List ℕ → Data → Option Request
-request_by has_reads op d =
-    if bytes_eq op (codes "commit") then commit_in d
-    else (if bytes_eq op (codes "ask") then ask_in d
+abbrev pub small_request_by : (has_reads : Bool) → List ℕ → Data → Option Request
+small_request_by has_reads op d =
+    if bytes_eq op (codes "ask") then with_key ask d
     else (if bytes_eq op (codes "work") then option_and_then work_of (number_at (codes "turns") d)
     else (if bytes_eq op (codes "take") then Some take
     else (if bytes_eq op (codes "deliver") then option_map deliver (number_at (codes "job") d)
-    else (if bytes_eq op (codes "give_back") then give_back_in d
+    else (if bytes_eq op (codes "give_back") then with_key give_back d
     else (if bytes_eq op (codes "checkpoint") then checkpoint_in d
-    else (if has_reads then option_map read_request (reading_by op d) else None)))))))
+    else (if has_reads then option_map read_request (reading_by op d) else None))))))
 
 unfoldable pub request_in : (has_reads : Bool) → Data → Option Request
-request_in has_reads d = option_and_then (λ op. request_by has_reads op d) (member_text (codes "op") d)
+request_in has_reads d =
+    option_and_then (λ op. if bytes_eq op (codes "commit") then commit_in d else small_request_by has_reads op d) (member_text (codes "op") d)
 
 -- a line that is not UTF-8, no JSON or no request has none
 unfoldable pub request_of : (has_reads : Bool) → List ℕ → Option Request

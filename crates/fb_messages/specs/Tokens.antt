@@ -1,7 +1,11 @@
--- For private clauses: data, as the tokens that are written of it.
-use Rattle.std.specs.Prelude.{◌≡◌, ℕ, ◌∷◌, ◌++◌, List, OnOk, Result}
+-- For private clauses: values of JSON that say data, and data as the tokens that are written of it.
+use Rattle.std.specs.Prelude.{◌≡◌, ◌∷◌, ◌++◌, ℕ, IfOk, List, OnOk, Result, false}
 use Rattle.json.specs.{Token.{Token, key}, Tree.{json_tokens}, Written.{Written}}
-use Rattle.serde_json.specs.{Data.{Data}, Written.{outline}}
+use Rattle.serde_json.specs.{Data.{Data}, View.{view}, Written.{has_float, outline}, declared.value.Value.{Value}}
+
+-- unless memory ran out, the value is these data, of which none is a float
+abbrev pub Says : {E : Type 0} → Result Value E → Data → Type 0
+Says made said = IfOk made (λ value. (view value ≡ said) × (has_float said ≡ false))
 
 abbrev pub tokens_of : Data → List Token
 tokens_of d = json_tokens (outline d)

@@ -1,14 +1,13 @@
 //! Requests as they are read from JSON, and replies as they are written.
 #![tactic(auto)]
 
-mod deploy_reply;
 mod laws;
-mod net_reply;
 mod read_reply;
 mod reply;
 mod request;
 mod small_reply;
 mod to_json;
+mod value_reply;
 
 pub use laws::limits_are_read;
 pub use reply::{Refusal, Reply};

@@ -1,19 +1,16 @@
 //! The replies, and their lines.
 ghost use Rattle.std.specs.Prelude.{◌≡◌, IfOk};
-ghost use Rattle.fb_jobs.specs.Values.{finding_of};
-ghost use Rattle.fb_messages.specs.{Replies.{fault_item, reply_line, value_said}, ReplyView.{data_of, refusal_text}};
+ghost use Rattle.fb_messages.specs.{Replies.{reply_line}, ReplyView.{data_of, refusal_text}};
 
 use crate::read_reply::shown_line;
 use crate::small_reply::{
     job, line_of, one_count, one_text, refused_unit, returned, stale_base, work_refused,
 };
-use crate::to_json::{ToJson, write_one, write_one_list, written_line};
+use crate::to_json::written_line;
 use fb_history::Showing;
-use fb_jobs::iface::Fault;
 use fb_jobs::{Key, Value};
 use fb_text::Name;
-use json::Writer;
-use std::alloc::AllocError;
+use std::alloc::{AllocError, Global};
 use std::sync::Arc;
 
 /// Why a request is refused, by the word that the reply has.
@@ -40,6 +37,7 @@ pub enum Refusal {
 }
 
 /// The reply to a line.
+#[derive(Drop)]
 pub enum Reply {
     Committed(u64),
     StaleBase { unit: Name, current: u64 },
@@ -55,30 +53,6 @@ pub enum Reply {
     Shown(Showing),
     Refused(Refusal),
     RefusedUnit(Refusal, Name),
-}
-
-impl Drop for Reply {
-    fn drop(self) {
-        match self {
-            Self::Committed(_)
-            | Self::StaleBase {
-                unit: _,
-                current: _,
-            }
-            | Self::Pending
-            | Self::Found(_)
-            | Self::Worked(_)
-            | Self::WorkRefused(_, _)
-            | Self::Job(_, _)
-            | Self::NoJob
-            | Self::Delivered
-            | Self::GivenBack(_)
-            | Self::Checkpointed(_)
-            | Self::Shown(_)
-            | Self::Refused(_)
-            | Self::RefusedUnit(_, _) => {}
-        }
-    }
 }
 
 impl Refusal {
@@ -108,41 +82,16 @@ impl Refusal {
     }
 }
 
-impl ToJson for Fault {
-    ghost said = { fault_item };
-
-    fn write(&self, out: &mut Writer) -> Result<(), AllocError> {
-        out.begin_array()?;
-        out.string(self.code.as_str())?;
-        out.u64(self.span.start as u64)?;
-        out.u64(self.span.end as u64)?;
-        out.end_array()
-    }
-}
-
-impl ToJson for Value {
-    ghost said = { λ value. value_said (finding_of value) };
-
-    fn write(&self, out: &mut Writer) -> Result<(), AllocError> {
-        match self {
-            Value::Faults(faults) => write_one_list(out, "faults", faults),
-            Value::Net(net) => write_one(out, "net", net),
-            Value::Deploy(deploy) => write_one(out, "deploy", deploy),
-        }
-    }
-}
-
 impl Reply {
-    /// The reply's line, with its line feed. A value or a page is written over what `room` holds. Fails if there is no memory for it.
-    pub fn line(&self, room: Vec<u8>) -> Result<Vec<u8>, AllocError>
+    /// The reply's line, with its line feed. Fails if there is no memory for it.
+    pub fn line(&self, alloc: Global) -> Result<Vec<u8>, AllocError>
         ensures { IfOk result (λ line. line.items ≡ reply_line (data_of self.now)) }
     {
-        let alloc = *room.allocator();
         match self {
             Reply::Committed(number) => line_of(alloc, one_count(alloc, "commit", *number)),
             Reply::StaleBase { unit, current } => line_of(alloc, stale_base(alloc, unit, *current)),
             Reply::Pending => line_of(alloc, one_text(alloc, "answer", "pending")),
-            Reply::Found(value) => written_line(room, &**value),
+            Reply::Found(value) => written_line(alloc, &**value),
             Reply::Worked(accepted) => line_of(alloc, one_count(alloc, "accepted", *accepted)),
             Reply::WorkRefused(accepted, refusal) => line_of(
                 alloc,
@@ -153,7 +102,7 @@ impl Reply {
             Reply::Delivered => line_of(alloc, one_text(alloc, "delivered", "accepted")),
             Reply::GivenBack(was_out) => line_of(alloc, returned(alloc, *was_out)),
             Reply::Checkpointed(before) => line_of(alloc, one_count(alloc, "checkpoint", *before)),
-            Reply::Shown(shown) => shown_line(alloc, room, shown),
+            Reply::Shown(shown) => shown_line(alloc, shown),
             Reply::Refused(refusal) => line_of(alloc, one_text(alloc, "refused", refusal.as_str())),
             Reply::RefusedUnit(refusal, unit) => line_of(
                 alloc,

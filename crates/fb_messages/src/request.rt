@@ -1,6 +1,6 @@
 //! From a line to the request that it is.
 ghost use Rattle.std.specs.Prelude.{◌≡◌, IfOk, codes, map, option_and_then, option_map};
-ghost use Rattle.fb_messages.specs.Requests.{ask_in, change_in, changes_of, checkpoint_in, commit_in, deliver, give_back_in, kind_at, kind_called, member_text, number_at, peek_in, put_in, read_request, reading_by, remove_in, request_by, request_in, request_of, text_in, units_in, watch_in, work_of};
+ghost use Rattle.fb_messages.specs.Requests.{change_in, changes_of, checkpoint_in, commit_in, kind_in, member_text, number_at, reading_by, request_in, request_of, small_request_by, units_in};
 ghost use Rattle.fb_messages.specs.RequestView.{change_view, reading_view, request_view};
 ghost use Rattle.serde_json.specs.View.{items_view, view};
 
@@ -8,6 +8,12 @@ use fb_history::Limits;
 use fb_jobs::Kind;
 use serde_json::Value;
 use std::alloc::{AllocError, Global};
+
+/// How many turns one request for work has at most.
+const MOST_TURNS: u64 = 1_000;
+
+/// How many milliseconds a watch waits at most.
+const MOST_WAIT: u64 = 30_000;
 
 /// A change of a commit, before its name is read. It lends its texts from the line.
 #[derive(Clone, Copy)]
@@ -34,6 +40,7 @@ pub enum AskedReading<'a> {
 }
 
 /// A request, before its names are read. It lends its texts from the line.
+#[derive(Drop)]
 pub enum Request<'a> {
     Commit(Vec<AskedChange<'a>>),
     Ask { kind: Kind, unit: &'a str },
@@ -43,21 +50,6 @@ pub enum Request<'a> {
     GiveBack { kind: Kind, unit: &'a str },
     Checkpoint(Limits),
     Read(AskedReading<'a>),
-}
-
-impl Drop for Request<'_> {
-    fn drop(self) {
-        match self {
-            Self::Commit(_)
-            | Self::Ask { kind: _, unit: _ }
-            | Self::Work(_)
-            | Self::Take
-            | Self::Deliver(_)
-            | Self::GiveBack { kind: _, unit: _ }
-            | Self::Checkpoint(_)
-            | Self::Read(_) => {}
-        }
-    }
 }
 
 fn member_text<'a>(value: &'a Value, name: &str) -> Option<&'a str>
@@ -72,41 +64,15 @@ fn number_at(value: &Value, name: &str) -> Option<u64>
     value.get(name)?.as_u64()
 }
 
-fn kind_called(text: &str) -> Option<Kind>
-    ensures { result ≡ kind_called text.now }
+fn kind_in(value: &Value) -> Option<Kind>
+    ensures { result ≡ kind_in (view value.now) }
 {
-    if text == "faults" {
-        Some(Kind::Faults)
-    } else if text == "net" {
-        Some(Kind::Net)
-    } else if text == "deploy" {
-        Some(Kind::Deploy)
-    } else {
-        None
+    match member_text(value, "kind")? {
+        "faults" => Some(Kind::Faults),
+        "net" => Some(Kind::Net),
+        "deploy" => Some(Kind::Deploy),
+        _ => None,
     }
-}
-
-fn kind_at(value: &Value, name: &str) -> Option<Kind>
-    ensures { result ≡ kind_at name.now (view value.now) }
-{
-    kind_called(member_text(value, name)?)
-}
-
-fn put_in<'a>(value: &'a Value) -> Option<AskedChange<'a>>
-    ensures { option_map change_view result ≡ put_in (view value.now) }
-{
-    let unit = member_text(value, "put")?;
-    let base = number_at(value, "base")?;
-    let text = member_text(value, "text")?;
-    Some(AskedChange::Put { unit, base, text })
-}
-
-fn remove_in<'a>(value: &'a Value) -> Option<AskedChange<'a>>
-    ensures { option_map change_view result ≡ remove_in (view value.now) }
-{
-    let unit = member_text(value, "remove")?;
-    let base = number_at(value, "base")?;
-    Some(AskedChange::Remove { unit, base })
 }
 
 /// A change has one of `put` and `remove`.
@@ -114,13 +80,20 @@ fn change_in<'a>(value: &'a Value) -> Option<AskedChange<'a>>
     ensures { option_map change_view result ≡ change_in (view value.now) }
 {
     match (value.get("put"), value.get("remove")) {
-        (Some(_), None) => put_in(value),
-        (None, Some(_)) => remove_in(value),
+        (Some(_), None) => Some(AskedChange::Put {
+            unit: member_text(value, "put")?,
+            base: number_at(value, "base")?,
+            text: member_text(value, "text")?,
+        }),
+        (None, Some(_)) => Some(AskedChange::Remove {
+            unit: member_text(value, "remove")?,
+            base: number_at(value, "base")?,
+        }),
         _ => None,
     }
 }
 
-#[tactic(auto, using(crate::proofs::Changes::no_more, crate::proofs::Changes::one_more_change, crate::proofs::Changes::one_no_change, crate::proofs::Changes::last_change))]
+#[tactic(auto, using(crate::proofs::Rules::joins))]
 fn changes_of<'a>(
     alloc: Global,
     values: &'a [Value],
@@ -142,56 +115,13 @@ fn changes_of<'a>(
 fn commit_in<'a>(alloc: Global, value: &'a Value) -> Result<Option<Request<'a>>, AllocError>
     ensures { IfOk result (λ found. option_map request_view found ≡ commit_in (view value.now)) }
 {
-    let Some(changes) = value.get("changes") else {
+    let Some(values) = value.get("changes").and_then(Value::as_array) else {
         return Ok(None);
     };
-    let Some(values) = changes.as_array() else {
-        return Ok(None);
-    };
-    match changes_of(alloc, values)? {
-        None => Ok(None),
-        Some(changes) => Ok(Some(Request::Commit(changes))),
-    }
+    Ok(changes_of(alloc, values)?.map(Request::Commit))
 }
 
-fn ask_in<'a>(value: &'a Value) -> Option<Request<'a>>
-    ensures { option_map request_view result ≡ ask_in (view value.now) }
-{
-    let kind = kind_at(value, "kind")?;
-    let unit = member_text(value, "unit")?;
-    Some(Request::Ask { kind, unit })
-}
-
-fn give_back_in<'a>(value: &'a Value) -> Option<Request<'a>>
-    ensures { option_map request_view result ≡ give_back_in (view value.now) }
-{
-    let kind = kind_at(value, "kind")?;
-    let unit = member_text(value, "unit")?;
-    Some(Request::GiveBack { kind, unit })
-}
-
-/// How many turns one request for work has at most.
-const MOST_TURNS: u64 = 1_000;
-
-fn work_in<'a>(value: &'a Value) -> Option<Request<'a>>
-    ensures { option_map request_view result
-        ≡ option_and_then work_of (number_at (codes "turns") (view value.now)) }
-{
-    let turns = number_at(value, "turns")?;
-    if 1 <= turns && turns <= MOST_TURNS {
-        Some(Request::Work(turns))
-    } else {
-        None
-    }
-}
-
-fn deliver_in<'a>(value: &'a Value) -> Option<Request<'a>>
-    ensures { option_map request_view result
-        ≡ option_map deliver (number_at (codes "job") (view value.now)) }
-{
-    Some(Request::Deliver(number_at(value, "job")?))
-}
-
+#[tactic(auto, using(std::proofs::lemmas::Bool::Decides::nat_tests))]
 fn checkpoint_in<'a>(value: &'a Value) -> Option<Request<'a>>
     ensures { option_map request_view result ≡ checkpoint_in (view value.now) }
 {
@@ -211,89 +141,49 @@ fn units_in<'a>(value: &'a Value) -> Option<AskedReading<'a>>
     }
 }
 
-fn text_in<'a>(value: &'a Value) -> Option<AskedReading<'a>>
-    ensures { option_map reading_view result ≡ text_in (view value.now) }
-{
-    Some(AskedReading::Text(member_text(value, "unit")?))
-}
-
-fn peek_in<'a>(value: &'a Value) -> Option<AskedReading<'a>>
-    ensures { option_map reading_view result ≡ peek_in (view value.now) }
-{
-    let kind = kind_at(value, "kind")?;
-    let unit = member_text(value, "unit")?;
-    Some(AskedReading::Peek { kind, unit })
-}
-
-/// How many milliseconds a watch waits at most.
-const MOST_WAIT: u64 = 30_000;
-
-fn watch_in<'a>(value: &'a Value) -> Option<AskedReading<'a>>
-    ensures { option_map reading_view result ≡ watch_in (view value.now) }
-{
-    let after = number_at(value, "after")?;
-    let wait = number_at(value, "wait")?;
-    if wait <= MOST_WAIT {
-        Some(AskedReading::Watch { after, wait })
-    } else {
-        None
-    }
-}
-
 fn reading_by<'a>(op: &str, value: &'a Value) -> Option<AskedReading<'a>>
-    ensures { option_map reading_view result
-        ≡ reading_by op.now (view value.now) }
+    ensures { option_map reading_view result ≡ reading_by op.now (view value.now) }
 {
-    if op == "status" {
-        Some(AskedReading::Status)
-    } else if op == "units" {
-        units_in(value)
-    } else if op == "text" {
-        text_in(value)
-    } else if op == "peek" {
-        peek_in(value)
-    } else if op == "watch" {
-        watch_in(value)
-    } else {
-        None
+    match op {
+        "status" => Some(AskedReading::Status),
+        "units" => units_in(value),
+        "text" => Some(AskedReading::Text(member_text(value, "unit")?)),
+        "peek" => Some(AskedReading::Peek {
+            kind: kind_in(value)?,
+            unit: member_text(value, "unit")?,
+        }),
+        "watch" => {
+            let after = number_at(value, "after")?;
+            let wait = number_at(value, "wait")?;
+            (wait <= MOST_WAIT).then_some(AskedReading::Watch { after, wait })
+        }
+        _ => None,
     }
 }
 
-fn read_in<'a>(op: &str, value: &'a Value) -> Option<Request<'a>>
+/// Any request but a commit.
+fn small_request_by<'a>(has_reads: bool, op: &str, value: &'a Value) -> Option<Request<'a>>
     ensures { option_map request_view result
-        ≡ option_map read_request (reading_by op.now (view value.now)) }
+        ≡ small_request_by has_reads op.now (view value.now) }
 {
-    Some(Request::Read(reading_by(op, value)?))
-}
-
-fn request_by<'a>(
-    alloc: Global,
-    has_reads: bool,
-    op: &str,
-    value: &'a Value,
-) -> Result<Option<Request<'a>>, AllocError>
-    ensures { IfOk result
-        (λ found. option_map request_view found
-        ≡ request_by has_reads op.now (view value.now)) }
-{
-    if op == "commit" {
-        commit_in(alloc, value)
-    } else if op == "ask" {
-        Ok(ask_in(value))
-    } else if op == "work" {
-        Ok(work_in(value))
-    } else if op == "take" {
-        Ok(Some(Request::Take))
-    } else if op == "deliver" {
-        Ok(deliver_in(value))
-    } else if op == "give_back" {
-        Ok(give_back_in(value))
-    } else if op == "checkpoint" {
-        Ok(checkpoint_in(value))
-    } else if has_reads {
-        Ok(read_in(op, value))
-    } else {
-        Ok(None)
+    match op {
+        "ask" => Some(Request::Ask {
+            kind: kind_in(value)?,
+            unit: member_text(value, "unit")?,
+        }),
+        "work" => {
+            let turns = number_at(value, "turns")?;
+            (1 <= turns && turns <= MOST_TURNS).then_some(Request::Work(turns))
+        }
+        "take" => Some(Request::Take),
+        "deliver" => Some(Request::Deliver(number_at(value, "job")?)),
+        "give_back" => Some(Request::GiveBack {
+            kind: kind_in(value)?,
+            unit: member_text(value, "unit")?,
+        }),
+        "checkpoint" => checkpoint_in(value),
+        _ if has_reads => Some(Request::Read(reading_by(op, value)?)),
+        _ => None,
     }
 }
 
@@ -310,13 +200,14 @@ fn request_of_value<'a>(
 {
     match member_text(value, "op") {
         None => Ok(None),
-        Some(op) => request_by(alloc, has_reads, op, value),
+        Some(op) if op == "commit" => commit_in(alloc, value),
+        Some(op) => Ok(small_request_by(has_reads, op, value)),
     }
 }
 
 /// The request that a line is, or None; a read only if there are reads. The line is read into `read`, from which the request lends its texts. Fails if there is
 /// no memory for the values in it.
-#[tactic(auto, using(crate::proofs::RequestReads::request_of_read, crate::proofs::RequestReads::request_of_unread))]
+#[tactic(auto, using(crate::proofs::Rules::texts), unfolding(crate::specs::Requests::request_of))]
 pub fn request_in<'a>(
     alloc: Global,
     has_reads: bool,

@@ -1,8 +1,8 @@
 //! Replies of few members, as values of JSON.
 ghost use Rattle.std.specs.Prelude.{◌≡◌, IfOk, codes};
 ghost use Rattle.serde_json.specs.Data.{Data, string};
-ghost use Rattle.fb_messages.specs.{ReadReplies.{missed_said, status_said, text_said}, ReplyView.{refusal_text}, Small.{Says}};
-ghost use Rattle.fb_messages.specs.Replies.{count, job_given, kind_text, one_member, refused_base, refused_unit, reply_line, returned, work_refused};
+ghost use Rattle.fb_messages.specs.{ReplyView.{refusal_text}, Tokens.{Says}};
+ghost use Rattle.fb_messages.specs.Replies.{count, job_given, kind_text, missed_said, one_member, refused_base, refused_unit, reply_line, returned, status_said, text_said, work_refused};
 
 use crate::reply::Refusal;
 use fb_history::Counts;

@@ -1,12 +1,12 @@
 //! What can be long is written as JSON token by token. The writer places the quotes, the colons and the commas.
 //! A reply is defined as the text of a JSON value (`reply_line`). For a network such a value in the code would cost a `String` for each path.
-ghost use Rattle.std.specs.Prelude.{◌≡◌, IfOk, map};
-ghost use Rattle.serde_json.specs.{Data.{Data, array, string}, View.{items_of}};
-ghost use Rattle.fb_messages.specs.{DeployReplies.{two}, NetReplies.{three}, Replies.{count, one_member, reply_line}, Tokens.{IsMember, IsSaid}};
+ghost use Rattle.std.specs.Prelude.{◌≡◌, IfOk};
+ghost use Rattle.serde_json.specs.Data.{Data, string};
+ghost use Rattle.fb_messages.specs.{Replies.{list_of, one_member, reply_line, three, two}, Tokens.{IsSaid}};
 
 use fb_text::Name;
 use json::Writer;
-use std::alloc::AllocError;
+use std::alloc::{AllocError, Global};
 
 /// What can be written as JSON.
 pub trait ToJson {
@@ -16,19 +16,23 @@ pub trait ToJson {
         ensures { IsSaid result out.old out.new (said self.now) };
 }
 
-impl ToJson for u64 {
-    ghost said = { count };
-
-    fn write(&self, out: &mut Writer) -> Result<(), AllocError> {
-        out.u64(*self)
-    }
-}
-
 impl ToJson for Name {
     ghost said = { string };
 
     fn write(&self, out: &mut Writer) -> Result<(), AllocError> {
         out.string(self.as_str())
+    }
+}
+
+impl<T: ToJson> ToJson for Vec<T> {
+    ghost said = { λ list. list_of T.said list.items };
+
+    fn write(&self, out: &mut Writer) -> Result<(), AllocError> {
+        out.begin_array()?;
+        for item in self {
+            item.write(out)?;
+        }
+        out.end_array()
     }
 }
 
@@ -58,55 +62,21 @@ pub fn write_three(
     out.end_array()
 }
 
-/// An array of these items.
-pub fn write_list<T: ToJson>(out: &mut Writer, items: &[T]) -> Result<(), AllocError>
-    ensures { IsSaid result out.old out.new (array (items_of (map T.said items.now))) }
-{
-    out.begin_array()?;
-    for item in items {
-        item.write(out)?;
-    }
-    out.end_array()
-}
-
-/// A member of the object that is being written.
-pub fn write_member<T: ToJson>(out: &mut Writer, name: &str, value: &T) -> Result<(), AllocError>
-    ensures { IsMember result out.old out.new name.now (T.said value.now) }
-{
-    out.key(name)?;
-    value.write(out)
-}
-
 /// An object with one member.
 pub fn write_one<T: ToJson>(out: &mut Writer, name: &str, value: &T) -> Result<(), AllocError>
     ensures { IsSaid result out.old out.new (one_member name.now (T.said value.now)) }
 {
     out.begin_object()?;
-    write_member(out, name, value)?;
-    out.end_object()
-}
-
-/// An object with one member, a list.
-pub fn write_one_list<T: ToJson>(
-    out: &mut Writer,
-    name: &str,
-    items: &[T],
-) -> Result<(), AllocError>
-    ensures { IsSaid result out.old out.new
-        (one_member name.now (array (items_of (map T.said items.now)))) }
-{
-    out.begin_object()?;
     out.key(name)?;
-    write_list(out, items)?;
+    value.write(out)?;
     out.end_object()
 }
 
-/// The line of what is written as JSON, with its line feed, written over what `room` holds.
-pub fn written_line<T: ToJson>(mut room: Vec<u8>, it: &T) -> Result<Vec<u8>, AllocError>
+/// The line of what is written as JSON, with its line feed.
+pub fn written_line<T: ToJson>(alloc: Global, it: &T) -> Result<Vec<u8>, AllocError>
     ensures { IfOk result (λ line. line.items ≡ reply_line (T.said it.now)) }
 {
-    room.clear();
-    let mut out = Writer::new(room);
+    let mut out = Writer::new(Vec::new(alloc));
     it.write(&mut out)?;
     let mut line = out.into_inner();
     line.push(b'\n')?;

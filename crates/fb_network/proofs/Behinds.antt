@@ -5,8 +5,8 @@ use Rattle.std.specs.{Prelude.{filter}, List.{All}}
 use Rattle.fb_tree.specs.declared.network.Sort.{Sort}
 use Rattle.fb_network.specs.{declared.network.InstanceKind.{InstanceKind}, declared.network.InstanceKind.TheVariants.{Block, Subapplication}}
 use Rattle.fb_network.specs.{declared.network.Instance.{Instance}, declared.network.End.{End}, declared.network.End.TheVariants.{Own, Of}}
-use Rattle.fb_network.specs.{declared.flat.Link.{Link}, declared.flat.Border.{Border}, declared.place.Place.{Place}, declared.entries.Edge.{Edge}, declared.entries.Join.{Join}}
-use Rattle.fb_network.specs.{declared.table.Standing.{Standing}, Network.{instance_named}, Places.{dotted}, PlainFlat.{PlainFlat}, PlainPrefix.{PlainPrefix}}
+use Rattle.fb_network.specs.{declared.flat.Link.{Link}, declared.flat.Border.{Border}, declared.paths.place.Place.{Place}, declared.flat.entries.Edge.{Edge}, declared.flat.entries.Join.{Join}}
+use Rattle.fb_network.specs.{declared.network.table.Standing.{Standing}, Network.{instance_named}, Places.{dotted}, PlainFlat.{PlainFlat}, PlainPrefix.{PlainPrefix}}
 use Rattle.fb_network.specs.Ready.{Nets}
 use Rattle.fb_network.specs.Composed.{behind_found, behind_instance, behind_kind, behind_of, belongs, border_places, end_borders, link_pairs, links_from, places_of}
 use Rattle.fb_network.specs.Standing.{IsTable, Says, StandsFor, borders_of, end_text, inner_borders, inner_borders_of_kind}

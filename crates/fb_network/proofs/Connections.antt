@@ -4,8 +4,8 @@ use Rattle.std.proofs.{lemmas.List.{length-map}, lemmas.List.Concat.{flat_map-ap
 use Rattle.std.specs.{Prelude.{slice_get, flat_map, option_map, option_and_then}, List.{All}}
 use Rattle.fb_tree.specs.declared.network.Sort.{Sort}
 use Rattle.fb_network.specs.{declared.network.Port.{Port}, declared.network.Instance.{Instance}, declared.network.Connection.{Connection}, declared.network.End.{End}}
-use Rattle.fb_network.specs.{declared.flat.Link.{Link}, declared.place.Place.{Place}, declared.entries.Edge.{Edge}}
-use Rattle.fb_network.specs.{declared.draft.Draft.{Draft}, declared.table.Standing.{Standing}, Network.{View, instance_named, place_of}, Clean.{adapter_at}}
+use Rattle.fb_network.specs.{declared.flat.Link.{Link}, declared.paths.place.Place.{Place}, declared.flat.entries.Edge.{Edge}}
+use Rattle.fb_network.specs.{declared.composition.draft.Draft.{Draft}, declared.network.table.Standing.{Standing}, Network.{View, instance_named, place_of}, Clean.{adapter_at}}
 use Rattle.fb_network.specs.{Plain.{PlainNetwork}, PlainPrefix.{PlainPrefix}, Ready.{Nets}}
 use Rattle.fb_network.specs.Composed.{adapter_links, behind_of, connection_borders, connection_links, end_borders, link_pairs, links_of_sort}
 use Rattle.fb_network.specs.Standing.{AddsConnections, AddsLinks, AreEdgesOf, AreNamed, HasInstances, HasOwn, IsTable, Says, end_text, own_place, own_texts}

@@ -2,8 +2,8 @@
 use Rattle.std.proofs.Common.{ℕ, ◌≡◌, List, ◌++◌, length, map, ap, subst}
 use Rattle.fb_network.specs.{PlainFlat.{PlainFlat}, PlainPrefix.{PlainPrefix}, Composed.{block_within, link_within}}
 use Rattle.fb_network.specs.Laid.{IsLaid, edge_moved, flat_at, prefix_within, join_moved, leaf_moved}
-use Rattle.fb_network.specs.{Reading.{Grows, IsInOrder, IsReading, TakesIn}, declared.entries.Leaf.{Leaf}}
-use Rattle.fb_network.specs.{declared.entries.Join.{Join}, declared.entries.Edge.{Edge}, declared.draft.Draft.{Draft}, Once.{IsOnce}}
+use Rattle.fb_network.specs.{Reading.{Grows, IsInOrder, IsReading, TakesIn}, declared.flat.entries.Leaf.{Leaf}}
+use Rattle.fb_network.specs.{declared.flat.entries.Join.{Join}, declared.flat.entries.Edge.{Edge}, declared.composition.draft.Draft.{Draft}, Once.{IsOnce}}
 use Rattle.std.specs.{List.{Contains}, declared.cmp.Ordering.{Ordering}}
 use Rattle.fb_tree.proofs.Text.Members.{contains_map, origin_in_map}
 use Rattle.fb_network.proofs.Readings.{edges_moved, joins_grown, joins_moved, leaves_grown, leaves_moved, reading_both}

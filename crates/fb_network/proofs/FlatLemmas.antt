@@ -1,8 +1,8 @@
 -- What is composed, put in order, is the flat network.
 use Rattle.std.proofs.Common.{ℕ, ◌≡◌, ◌++◌, List, Option, length, map, refl, ◌∙◌}
 use Rattle.std.specs.{Prelude.{Contains, flat_map}, List.Sorted.{IsStrictlySortedBy}}
-use Rattle.fb_network.specs.{declared.flat.FlatBlock.{FlatBlock}, declared.flat.Link.{Link}, declared.flat.Border.{Border}, declared.entries.Edge.{Edge}}
-use Rattle.fb_network.specs.{declared.draft.Draft.{Draft}, declared.table.Standing.{Standing}, Plain.{PlainNetwork}, LinkOrder.{border_cmp, link_cmp}}
+use Rattle.fb_network.specs.{declared.flat.FlatBlock.{FlatBlock}, declared.flat.Link.{Link}, declared.flat.Border.{Border}, declared.flat.entries.Edge.{Edge}}
+use Rattle.fb_network.specs.{declared.composition.draft.Draft.{Draft}, declared.network.table.Standing.{Standing}, Plain.{PlainNetwork}, LinkOrder.{border_cmp, link_cmp}}
 use Rattle.fb_network.specs.{Network.{View, instance_named}, Clean.{IsCleanThroughout}, FlatNet.{IsFlat}, Ready.{Nets, AreFinished}}
 use Rattle.fb_network.specs.Composed.{Instances, behind_of, composed_blocks, composed_borders, composed_links, inner_links, links_of_sort}
 use Rattle.fb_network.specs.{Part.{IsFlatInWhole, SameAdapters}, PlainFlat.{PlainFlat}, Laid.{IsLaid, border_at, link_at}}

@@ -3,7 +3,7 @@ use Rattle.std.proofs.Common.{ℕ, ◌≡◌, ◌<◌, ◌+◌, suc, List, [], �
 use Rattle.std.proofs.{lemmas.List.Elements.{All-cons, All-get_or, All-nil}, lemmas.List.{length-take-le, map-append}, lemmas.Option.{slice_get_within}}
 use Rattle.std.specs.{Prelude.{slice_get}, List.{All}}
 use Rattle.fb_tree.specs.{declared.interface.Side.{Side}, declared.interface.Side.TheVariants.{Input, Output}}
-use Rattle.fb_network.specs.{declared.network.Port.{Port}, declared.place.Place.{Place}, declared.entries.Join.{Join}, Places.{dotted}}
+use Rattle.fb_network.specs.{declared.network.Port.{Port}, declared.paths.place.Place.{Place}, declared.flat.entries.Join.{Join}, Places.{dotted}}
 use Rattle.fb_network.specs.{PlainPrefix.{PlainPrefix}, Composed.{adapter_links, link_on_side, plug_links, port_links}}
 use Rattle.fb_network.specs.{Laid.{IsJoinBelow, link_at, path_at, path_in, text_or_nothing}, Reading.{AreJoins, Grows, IsPlaceBelow}, Standing.{Says}}
 use Rattle.fb_network.specs.Behind.{AreMembers, IsMember, adapter_joins, prefix_behind, join_on_side, member_join, member_joins, plug_joins}

@@ -4,8 +4,8 @@ use Rattle.std.proofs.lemmas.List.Elements.{All-append, All-map, All-nil, All-we
 use Rattle.std.proofs.{lemmas.List.{length-map, map-append}, lemmas.Option.{slice_get-map}, lemmas.Simd.{map-map}}
 use Rattle.std.specs.{Prelude.{slice_get, option_map}, List.{All}}
 use Rattle.fb_network.specs.{Places.{dotted}, PlainPrefix.{PlainPrefix}, declared.flat.FlatBlock.{FlatBlock}, declared.flat.Link.{Link}}
-use Rattle.fb_network.specs.{declared.flat.Border.{Border}, declared.place.Place.{Place}, declared.entries.Leaf.{Leaf}, declared.entries.Join.{Join}}
-use Rattle.fb_network.specs.{declared.entries.Edge.{Edge}, Composed.{block_within, link_within}}
+use Rattle.fb_network.specs.{declared.flat.Border.{Border}, declared.paths.place.Place.{Place}, declared.flat.entries.Leaf.{Leaf}, declared.flat.entries.Join.{Join}}
+use Rattle.fb_network.specs.{declared.flat.entries.Edge.{Edge}, Composed.{block_within, link_within}}
 use Rattle.fb_network.specs.Laid.{IsEdgeBelow, IsJoinBelow, IsLeafBelow, block_at, border_at, edge_moved, prefix_within, join_moved, leaf_moved, link_at, path_at, path_in, place_moved, text_or_nothing}
 use Rattle.fb_network.specs.Reading.{AreEdges, AreJoins, AreLeaves, ArePlaces, Grows, IsPlaceBelow, IsReading, border_within}
 

@@ -4,8 +4,8 @@ use Rattle.std.proofs.{lemmas.List.{take_more}, lemmas.List.Concat.{flat_map-app
 use Rattle.std.specs.{Prelude.{flat_map, is_some}, BTreeMap.{is_at}}
 use Rattle.fb_tree.specs.Text.Order.{name_cmp}
 use Rattle.fb_network.specs.{declared.network.InstanceKind.TheVariants.{Block, Subapplication}, declared.network.Instance.{Instance}}
-use Rattle.fb_network.specs.{declared.flat.FlatBlock.{FlatBlock}, declared.flat.Link.{Link}, declared.place.Place.{Place}, declared.entries.Leaf.{Leaf}, declared.entries.Edge.{Edge}}
-use Rattle.fb_network.specs.{declared.draft.Draft.{Draft}, declared.table.Standing.{Standing}, Network.{instance_named}, PlainFlat.{PlainFlat}}
+use Rattle.fb_network.specs.{declared.flat.FlatBlock.{FlatBlock}, declared.flat.Link.{Link}, declared.paths.place.Place.{Place}, declared.flat.entries.Leaf.{Leaf}, declared.flat.entries.Edge.{Edge}}
+use Rattle.fb_network.specs.{declared.composition.draft.Draft.{Draft}, declared.network.table.Standing.{Standing}, Network.{instance_named}, PlainFlat.{PlainFlat}}
 use Rattle.fb_network.specs.{PlainPrefix.{PlainPrefix}, Ready.{Nets}, Composed.{inner_blocks, inner_links}}
 use Rattle.fb_network.specs.{Laid.{IsEdgeBelow, IsJoinBelow, IsLeafBelow, block_at, border_at, link_at}, Reading.{AreEdges, AreJoins, AreLeaves, Grows, TakesIn}}
 use Rattle.fb_network.specs.Standing.{HoldsInstances, IsTable, Says, StandsFor, TakesInstance, inner_borders, or_alone, or_instance}

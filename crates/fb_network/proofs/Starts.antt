@@ -4,7 +4,7 @@ use Rattle.std.proofs.lemmas.{List.{drop-append-le, length-drop, map-append, tak
 use Rattle.std.proofs.lemmas.Str.{IsCharBoundary-end, IsCharBoundary-from_take, IsUtf8-string_bytes, IsUtf8-take}
 use Rattle.std.proofs.Math.Seq.{drop-append_seam, take-length}
 use Rattle.std.specs.{Prelude.{String, string_bytes}, String.{string_len}, List.{All}, Str.{IsCharBoundary, IsUtf8}}
-use Rattle.fb_network.specs.{Laid.{prefix_within}, PlainPrefix.{PlainPrefix}, declared.prefixes.Prefix.{Prefix}, Starts.{IsIn, prefix_in, start_in}}
+use Rattle.fb_network.specs.{Laid.{prefix_within}, PlainPrefix.{PlainPrefix}, declared.paths.prefixes.Prefix.{Prefix}, Starts.{IsIn, prefix_in, start_in}}
 use Rattle.fb_network.proofs.Standings.{next_taken}
 
 -- a text, and the one that it grows to

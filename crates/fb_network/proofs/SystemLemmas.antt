@@ -1,8 +1,8 @@
 -- The links of a system.
 use Rattle.std.proofs.{Common.{ℕ, ◌≡◌, ◌<◌, ◌+◌, ◌∙◌, List, [], ◌∷◌, length, map, take, get_or, refl, sym}, lemmas.List.Elements.{All-nil}}
 use Rattle.std.specs.{Prelude.{◌↔◌, Contains}, List.{flat_map}}
-use Rattle.fb_network.specs.{declared.flat.Link.{Link}, declared.entries.Edge.{Edge}, declared.draft.Draft.{Draft}}
-use Rattle.fb_network.specs.{declared.application.FlatApplication.{FlatApplication}, Composed.{link_within}, PlainFlat.{PlainFlat}, LinkOrder.{link_cmp_total}}
+use Rattle.fb_network.specs.{declared.flat.Link.{Link}, declared.flat.entries.Edge.{Edge}, declared.composition.draft.Draft.{Draft}}
+use Rattle.fb_network.specs.{declared.flat.application.FlatApplication.{FlatApplication}, Composed.{link_within}, PlainFlat.{PlainFlat}, LinkOrder.{link_cmp_total}}
 use Rattle.fb_network.specs.SystemFlat.{IsApplicationLink, IsSystemFlat, application_blocks, application_links}
 use Rattle.fb_network.specs.{Laid.{IsEdgeBelow, IsJoinBelow, IsLaid, IsLeafBelow, block_at, link_at}, Reading.{AreJoins, AreLeaves, IsFinish, TakesIn}}
 use Rattle.fb_network.proofs.{Readings.{reading_nothing}, SameSorted.{same_sorted}, Standings.{flat_map_push, next_taken}}

@@ -5,8 +5,8 @@ use Rattle.fb_tree.specs.{Text.Order.{name_cmp}, declared.network.Sort.{Sort}, d
 use Rattle.fb_tree.specs.declared.interface.Side.TheVariants.{Input, Output}
 use Rattle.fb_network.specs.{Sorts.{same_sort}, Places.{dotted}, declared.network.Port.{Port}, declared.network.InstanceKind.{InstanceKind}}
 use Rattle.fb_network.specs.{declared.network.InstanceKind.TheVariants.{Block, Subapplication}, declared.network.End.{End}}
-use Rattle.fb_network.specs.{declared.network.End.TheVariants.{Own, Of}, declared.network.Connection.{Connection}, declared.place.Place.{Place}}
-use Rattle.fb_network.specs.{declared.entries.Join.{Join}, declared.entries.Edge.{Edge}, declared.table.Standing.{Standing}, PlainPrefix.{PlainPrefix}}
+use Rattle.fb_network.specs.{declared.network.End.TheVariants.{Own, Of}, declared.network.Connection.{Connection}, declared.paths.place.Place.{Place}}
+use Rattle.fb_network.specs.{declared.flat.entries.Join.{Join}, declared.flat.entries.Edge.{Edge}, declared.network.table.Standing.{Standing}, PlainPrefix.{PlainPrefix}}
 
 abbrev pub edge_belongs : Sort → List ℕ → Edge → Bool
 edge_belongs sort port e = same_sort e.sort sort && is_at (name_cmp e.port) port

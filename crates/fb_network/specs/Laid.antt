@@ -1,8 +1,8 @@
 -- Flat networks by numbers.
 use Rattle.std.specs.{Prelude.{ℕ, ◌+◌, ◌<◌, List, [], ◌++◌, Option, Some, None, slice_get, map}, List.{All}}
 use Rattle.fb_network.specs.{Places.{dotted}, PlainFlat.{PlainFlat}, PlainPrefix.{PlainPrefix}, declared.flat.FlatBlock.{FlatBlock}, declared.flat.Link.{Link}}
-use Rattle.fb_network.specs.{declared.flat.Border.{Border}, declared.place.Place.{Place}, declared.entries.Leaf.{Leaf}, declared.entries.Join.{Join}}
-use Rattle.fb_network.specs.declared.entries.Edge.{Edge}
+use Rattle.fb_network.specs.{declared.flat.Border.{Border}, declared.paths.place.Place.{Place}, declared.flat.entries.Leaf.{Leaf}, declared.flat.entries.Join.{Join}}
+use Rattle.fb_network.specs.declared.flat.entries.Edge.{Edge}
 
 abbrev pub text_or_nothing : Option (List ℕ) → List ℕ
 text_or_nothing None = []

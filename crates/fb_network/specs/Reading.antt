@@ -3,8 +3,8 @@ use Rattle.std.specs.{Prelude.{ℕ, ◌<◌, ◌≡◌, List, ◌++◌, Some, ma
 use Rattle.std.specs.declared.cmp.Ordering.{Ordering}
 use Rattle.fb_network.specs.{LinkOrder.{border_cmp, link_cmp}, Places.{dotted}, Composed.{blocks_of, links_of}, PlainFlat.{PlainFlat}}
 use Rattle.fb_network.specs.{PlainPrefix.{PlainPrefix}, Laid.{IsEdgeBelow, IsJoinBelow, IsLeafBelow, block_at, border_at, link_at, path_at}}
-use Rattle.fb_network.specs.{declared.flat.FlatBlock.{FlatBlock}, declared.flat.Link.{Link}, declared.flat.Border.{Border}, declared.place.Place.{Place}}
-use Rattle.fb_network.specs.{declared.entries.Leaf.{Leaf}, declared.entries.Join.{Join}, declared.entries.Edge.{Edge}, declared.draft.Draft.{Draft}}
+use Rattle.fb_network.specs.{declared.flat.FlatBlock.{FlatBlock}, declared.flat.Link.{Link}, declared.flat.Border.{Border}, declared.paths.place.Place.{Place}}
+use Rattle.fb_network.specs.{declared.flat.entries.Leaf.{Leaf}, declared.flat.entries.Join.{Join}, declared.flat.entries.Edge.{Edge}, declared.composition.draft.Draft.{Draft}}
 
 -- the entries name prefixes of the list, and by these they mean the plain ones
 pub record IsReading {E X : Type 0} (below : ℕ → E → Type 0) (at : List PlainPrefix → E → X) (prefixes : List PlainPrefix) (entries : List E) (plain : List X) : Type 0 where

@@ -4,8 +4,8 @@ use Rattle.std.specs.BTreeMap.{is_at}
 use Rattle.fb_tree.specs.Text.Order.{name_cmp}
 use Rattle.fb_network.specs.{declared.network.InstanceKind.{InstanceKind}, declared.network.InstanceKind.TheVariants.{Block, Subapplication}}
 use Rattle.fb_network.specs.{declared.network.Instance.{Instance}, declared.network.End.{End}, declared.network.End.TheVariants.{Own, Of}}
-use Rattle.fb_network.specs.{declared.flat.FlatBlock.{FlatBlock}, declared.flat.Link.{Link}, declared.flat.Border.{Border}, declared.place.Place.{Place}}
-use Rattle.fb_network.specs.{declared.entries.Edge.{Edge}, declared.draft.Draft.{Draft}, declared.table.Standing.{Standing}, Network.{instance_named, View}}
+use Rattle.fb_network.specs.{declared.flat.FlatBlock.{FlatBlock}, declared.flat.Link.{Link}, declared.flat.Border.{Border}, declared.paths.place.Place.{Place}}
+use Rattle.fb_network.specs.{declared.flat.entries.Edge.{Edge}, declared.composition.draft.Draft.{Draft}, declared.network.table.Standing.{Standing}, Network.{instance_named, View}}
 use Rattle.fb_network.specs.{Places.{dotted}, Plain.{PlainNetwork}, PlainFlat.{PlainFlat}, PlainPrefix.{PlainPrefix}, Ready.{Nets}}
 use Rattle.fb_network.specs.{declared.network.Connection.{Connection}, Composed.{connection_borders, connection_links, inner_blocks, inner_links}}
 use Rattle.fb_network.specs.{Laid.{path_at}, Reading.{AreEdges, AreJoins, AreLeaves, Grows, border_within}}

@@ -1,6 +1,6 @@
 -- Starts of prefixes, which are parts of one text.
 use Rattle.std.specs.{Prelude.{ℕ, ◌-◌, ◌≤◌, List, drop, take}, Str.{IsCharBoundary}}
-use Rattle.fb_network.specs.{PlainPrefix.{PlainPrefix}, declared.prefixes.Prefix.{Prefix}}
+use Rattle.fb_network.specs.{PlainPrefix.{PlainPrefix}, declared.paths.prefixes.Prefix.{Prefix}}
 
 abbrev pub start_in : List ℕ → Prefix → List ℕ
 start_in starts prefix = take (prefix.to - prefix.from) (drop prefix.from starts)

@@ -1,7 +1,7 @@
 -- The flat network of a system: what its applications hold, each inside the application's name (IEC 61499-1, clause 7).
 use Rattle.std.specs.{Prelude.{◌≡◌, ◌↔◌, List, [], Contains, map}, List.{flat_map}, List.Sorted.{IsStrictlySortedBy}}
 use Rattle.fb_network.specs.{declared.flat.FlatBlock.{FlatBlock}, declared.flat.Link.{Link}, PlainFlat.{PlainFlat}, LinkOrder.{link_cmp}}
-use Rattle.fb_network.specs.{declared.application.FlatApplication.{FlatApplication}, Composed.{block_within, link_within}}
+use Rattle.fb_network.specs.{declared.flat.application.FlatApplication.{FlatApplication}, Composed.{block_within, link_within}}
 
 -- the blocks of an application, seen from the system
 abbrev pub application_blocks : FlatApplication → List FlatBlock

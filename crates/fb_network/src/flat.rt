@@ -1,13 +1,21 @@
-//! Flat networks.
+//! Flat networks: their blocks, links and borders, kept by numbers and ordered by their texts.
 ghost use Rattle.std.specs.{Prelude.{◌≡◌, ◌↔◌, refl, IfOk, IsTrue}, Ordering.{eq_by_cmp, as_partial_cmp}};
 ghost use Rattle.std.specs.Cmp.{eq_by_cmp_equiv, partial_equiv_from_equiv, partial_order_from_total};
 ghost use Rattle.fb_network.specs.LinkOrder.{link_cmp, link_cmp_total, border_cmp, border_cmp_total};
 
-use crate::entries::{Edge, Join, Leaf, plain_blocks, plain_borders, plain_links};
+pub(crate) mod application;
+pub(crate) mod count;
+pub(crate) mod entries;
+mod numbered;
+pub(crate) mod order;
+mod same;
+mod shown;
+
+use crate::flat::entries::{Edge, Join, Leaf, plain_blocks, plain_borders, plain_links};
+use crate::flat::same::{are_same_edges, are_same_joins, are_same_leaves};
 use crate::network::sort_number;
-use crate::path::Path;
-use crate::prefixes::Prefixes;
-use crate::same::{are_same_edges, are_same_joins, are_same_leaves};
+use crate::paths::path::Path;
+use crate::paths::prefixes::Prefixes;
 use fb_tree::Sort;
 use fb_tree::text::Name;
 use std::alloc::{AllocError, Global};

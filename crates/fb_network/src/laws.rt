@@ -1,7 +1,7 @@
 //! Laws of flat networks.
 ghost use Rattle.std.specs.Prelude.{◌≡◌, List};
 ghost use Rattle.fb_network.specs.{Plain.{PlainNetwork}, PlainFlat.{PlainFlat}, Network.{View}, Clean.{IsCleanThroughout}, FlatNet.{IsFlat}};
-ghost use Rattle.fb_network.specs.{declared.application.FlatApplication.{FlatApplication}, Composition.{ChainsAreComposed}, SystemFlat.{IsSystemFlat}};
+ghost use Rattle.fb_network.specs.{declared.flat.application.FlatApplication.{FlatApplication}, Composition.{ChainsAreComposed}, SystemFlat.{IsSystemFlat}};
 
 /// The law that composing rests on: a chain is inside one subapplication instance, or holds exactly one connection of the network
 /// itself, and before and after it nothing or a border of an inner network.

@@ -1,6 +1,11 @@
-//! Networks as plain values: ports, instances and connections.
+//! Networks as plain values: ports, instances and connections, and what their names mean.
 ghost use Rattle.std.specs.Prelude.{◌≡◌};
 ghost use Rattle.fb_network.specs.Sorts.{number_of, same_sort};
+
+pub(crate) mod adapters;
+pub(crate) mod look_up;
+pub(crate) mod own;
+pub(crate) mod table;
 
 use fb_tree::text::Name;
 use fb_tree::{Side, Sort};

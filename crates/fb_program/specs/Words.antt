@@ -1,6 +1,7 @@
 -- What the words of the program's command line ask for.
-use Rattle.std.specs.{Prelude.{◌≡◌, ◌≤◌, ℕ, [], ◌∷◌, List, Option, Some, codes, option_map, true}, Str.Parse.{digits_value, without_leading_plus}}
+use Rattle.std.specs.{Prelude.{◌≡◌, ◌≤◌, ℕ, [], ◌∷◌, Bool, List, Option, Some, codes, false, option_map, true}, Str.Parse.{digits_value, without_leading_plus}}
 use Rattle.clap.specs.Words.{App, Row, Rule, Text, new_app, new_rule, one_of, subcommand_of, with_rule, with_subcommand}
+use Rattle.clap.specs.declared.builder.action.ArgAction.TheVariants.{SetTrue}
 use Rattle.clap.specs.declared.builder.value_parser.ValueParser.TheVariants as reads
 use Rattle.fb_program.specs.{declared.asked.Settings.{Settings}, declared.asked.Settings.TheVariants.{Host, Script, Serve}}
 
@@ -12,8 +13,15 @@ number_option name most default = record (new_rule name) { long = Some name; par
 abbrev pub port_option : Rule
 port_option = record (new_rule (codes "port")) { long = Some (codes "port"); parser = Some (reads.Unsigned 0 65535); required = true }
 
-abbrev pub units_option : Rule
-units_option = number_option (codes "units") 16384 (codes "1024")
+abbrev pub units_option : Text → Rule
+units_option default = number_option (codes "units") 16384 default
+
+-- of a script and of a server that ends by itself, and of one that stays
+abbrev pub few_units : Text
+few_units = codes "1024"
+
+abbrev pub all_units : Text
+all_units = codes "16384"
 
 abbrev pub history_option : Rule
 history_option = number_option (codes "history") 10000000 (codes "100000")
@@ -22,30 +30,34 @@ abbrev pub workers_option : Rule
 workers_option = number_option (codes "workers") 16 (codes "2")
 
 abbrev pub script_app : App
-script_app = with_rule (with_rule (new_app (codes "script")) units_option) history_option
+script_app = with_rule (with_rule (new_app (codes "script")) (units_option few_units)) history_option
 
 abbrev pub serve_app : App
 serve_app =
     with_rule (with_rule (
     with_rule (with_rule (with_rule (new_app (codes "serve")) port_option) workers_option)
     (number_option (codes "sessions") 64 (codes "1"))
-    ) units_option) history_option
+    ) (units_option few_units)) history_option
 
--- `--idle N`, a number of minutes, or 0
+-- `--idle N`, a number of minutes, or 0 for none
 abbrev pub idle_option : Rule
-idle_option = record (new_rule (codes "idle")) { long = Some (codes "idle"); parser = Some (reads.Unsigned 0 10080); defaults = codes "0" ∷ [] }
+idle_option = record (new_rule (codes "idle")) { long = Some (codes "idle"); parser = Some (reads.Unsigned 0 10080); defaults = codes "60" ∷ [] }
 
 -- `--secret FILE`, which has no default
 abbrev pub secret_option : Rule
 secret_option = record (new_rule (codes "secret")) { long = Some (codes "secret") }
 
+-- `--open`, which has no value
+abbrev pub open_option : Rule
+open_option = record (new_rule (codes "open")) { long = Some (codes "open"); action = Some SetTrue }
+
 abbrev pub host_app : App
 host_app =
     with_rule (with_rule (
-    with_rule (with_rule (with_rule (
+    with_rule (with_rule (with_rule (with_rule (
     with_rule (with_rule (with_rule (new_app (codes "host")) port_option) workers_option)
     (number_option (codes "sessions") 255 (codes "32"))
-    ) units_option) history_option) secret_option) idle_option)
+    ) (units_option all_units)) history_option) secret_option) open_option) idle_option)
     (number_option (codes "connections") 1000000000 (codes "1000000000"))
 
 -- the program, which has a version and requires a subcommand
@@ -61,6 +73,10 @@ number_of name rows = option_map (λ text. digits_value 10 (without_leading_plus
 
 abbrev pub IsNumberIn : ℕ → ℕ → Text → List Row → ℕ → Type 0
 IsNumberIn least most name rows number = (number_of name rows ≡ Some number) × (least ≤ number) × (number ≤ most)
+
+-- whether the option was given
+abbrev pub IsFlagIn : Text → List Row → Bool → Type 0
+IsFlagIn name rows flag = (one_of name rows ≡ Some (codes "true") → flag ≡ true) × (one_of name rows ≡ Some (codes "false") → flag ≡ false)
 
 -- the limits are those of these matches
 abbrev pub AreLimitsIn : List Row → (units history : ℕ) → Type 0
@@ -90,7 +106,7 @@ IsHost rows (Script units history) = ⊥
 IsHost rows (Serve port workers sessions units history) = ⊥
 IsHost rows (Host it) =
     AreServerNumbersIn 255 rows it.port it.workers it.sessions it.limits.units it.limits.history
-    × IsNumberIn 0 10080 (codes "idle") rows it.idle × IsNumberIn 1 1000000000 (codes "connections") rows it.connections
+    × IsFlagIn (codes "open") rows it.is_open × IsNumberIn 0 10080 (codes "idle") rows it.idle × IsNumberIn 1 1000000000 (codes "connections") rows it.connections
 
 -- the settings are those of this subcommand and its matches
 abbrev pub IsAsked : Option (Text × List Row) → Settings → Type 0

@@ -1,12 +1,12 @@
 //! The program's arguments.
 ghost use Rattle.std.specs.Prelude.{◌≡◌, ◌≤◌, IfOk, IfSome, List, codes, false, map, true};
 ghost use Rattle.clap.specs.Words.{app_of, found_of, rows_of, rule_of, subcommand_rows_of};
-ghost use Rattle.fb_program.specs.Words.{AreLimitsIn, Asks, IsAsked, IsHost, IsNumberIn, IsScript, IsServe, bench_app, history_option, idle_option, number_option, port_option, secret_option, units_option, workers_option};
+ghost use Rattle.fb_program.specs.Words.{AreLimitsIn, Asks, IsAsked, IsFlagIn, IsHost, IsNumberIn, IsScript, IsServe, bench_app, history_option, idle_option, number_option, open_option, port_option, secret_option, units_option, workers_option};
 
 use crate::asked::{HostSettings, Settings};
 use clap::builder::ValueParser;
 use clap::error::ErrorKind;
-use clap::{Arg, ArgMatches, Command, Error};
+use clap::{Arg, ArgAction, ArgMatches, Command, Error};
 use fb_wire::bench::Limits;
 use std::alloc::{AllocError, Global};
 
@@ -30,6 +30,11 @@ const MOST_CONNECTIONS: u64 = 1_000_000_000;
 /// The version of the program, and the kit by which it is proved and built.
 const VERSION: &str = "1.0.0 (rattle-kit-13f)";
 
+/// The units of a script and of a server that ends by itself, and those of one that stays: a plant has more than a test.
+const FEW_UNITS: &str = "1024";
+
+const ALL_UNITS: &str = "16384";
+
 const LAST_CALL: &str =
     "How many calls are recorded before all further ones are refused, 1 to 10000000";
 
@@ -39,7 +44,7 @@ const CONNECTIONS: &str = "How many connections it lets in over its life, 1 to 6
 
 const SEATS: &str = "How many sessions there are at once, 1 to 255";
 
-const LAST_CONNECTION: &str = "After how many connections it closes, 1 to 1000000000";
+const LAST_SESSION: &str = "After how many sessions it closes, 1 to 1000000000";
 
 /// An option `--NAME N`, with N from 1 to `most`, its default, and a sentence on it.
 fn number_option<'a>(
@@ -59,12 +64,12 @@ fn number_option<'a>(
         .help(help)
 }
 
-fn units_option<'a>(alloc: Global) -> Arg<'a>
-    ensures rule { rule_of result ≡ units_option }
+fn units_option<'a>(alloc: Global, default: &'a str) -> Arg<'a>
+    ensures rule { rule_of result ≡ units_option default.now }
     ensures local { result.global ≡ false }
 {
     let help = "How many units there may be at once, 1 to 16384";
-    number_option(alloc, "units", MOST_UNITS, "1024", help)
+    number_option(alloc, "units", MOST_UNITS, default, help)
 }
 
 fn history_option<'a>(alloc: Global, help: &'a str) -> Arg<'a>
@@ -100,7 +105,7 @@ fn idle_option<'a>(alloc: Global) -> Arg<'a>
     Arg::new(alloc, "idle")
         .long("idle")
         .value_parser(ValueParser::unsigned(0, MOST_IDLE))
-        .default_value("0")
+        .default_value("60")
         .help("After how many minutes of silence a session ends, at most 10080, or 0 for never")
 }
 
@@ -108,37 +113,48 @@ fn secret_option<'a>(alloc: Global) -> Arg<'a>
     ensures rule { rule_of result ≡ secret_option }
     ensures local { result.global ≡ false }
 {
-    Arg::new(alloc, "secret")
-        .long("secret")
-        .help("The file whose first line each connection sends first")
+    Arg::new(alloc, "secret").long("secret").help(
+        "The file whose first line is the secret, in the place of one that the host makes",
+    )
+}
+
+fn open_option<'a>(alloc: Global) -> Arg<'a>
+    ensures rule { rule_of result ≡ open_option }
+    ensures local { result.global ≡ false }
+{
+    Arg::new(alloc, "open")
+        .long("open")
+        .action(ArgAction::SetTrue)
+        .help("There is no secret: each user of this machine may connect")
 }
 
 fn command<'a>(alloc: Global) -> Result<Command<'a>, AllocError>
     ensures { IfOk result (λ c. app_of c ≡ bench_app) }
 {
     let script = Command::new(alloc, "script")
-        .arg(units_option(alloc))?
+        .arg(units_option(alloc, FEW_UNITS))?
         .arg(history_option(alloc, LAST_CALL))?;
     let serve = Command::new(alloc, "serve")
         .arg(port_option(alloc))?
         .arg(workers_option(alloc))?
         .arg(number_option(alloc, "sessions", MOST_SESSIONS, "1", CONNECTIONS))?
-        .arg(units_option(alloc))?
+        .arg(units_option(alloc, FEW_UNITS))?
         .arg(history_option(alloc, LAST_CALL))?;
     let host = Command::new(alloc, "host")
         .arg(port_option(alloc))?
         .arg(workers_option(alloc))?
         .arg(number_option(alloc, "sessions", MOST_SEATS, "32", SEATS))?
-        .arg(units_option(alloc))?
+        .arg(units_option(alloc, ALL_UNITS))?
         .arg(history_option(alloc, NEW_START))?
         .arg(secret_option(alloc))?
+        .arg(open_option(alloc))?
         .arg(idle_option(alloc))?
         .arg(number_option(
             alloc,
             "connections",
             MOST_CONNECTIONS,
             "1000000000",
-            LAST_CONNECTION,
+            LAST_SESSION,
         ))?;
     let command = Command::new(alloc, "bench61499")
         .version(VERSION)
@@ -159,6 +175,12 @@ fn number_at(matches: &ArgMatches<'_>, name: &str, least: u64, most: u64) -> Opt
     } else {
         None
     }
+}
+
+fn flag_in(matches: &ArgMatches<'_>, name: &str) -> bool
+    ensures { IsFlagIn name.now (rows_of (found_of matches.now)) result }
+{
+    matches.get_flag(name)
 }
 
 fn limits_in(matches: &ArgMatches<'_>) -> Option<Limits>
@@ -211,6 +233,7 @@ fn host_in<'a>(matches: &ArgMatches<'a>) -> Option<Settings<'a>>
         sessions: seats as u8,
         limits,
         secret: matches.get_str("secret"),
+        is_open: flag_in(matches, "open"),
         idle,
         connections,
     }))

@@ -13,11 +13,13 @@ pub struct HostSettings<'a> {
     pub sessions: u8,
     /// How many units there may be, and after how many calls the history begins again.
     pub limits: Limits,
-    /// The file whose first line connections must send first.
+    /// The file whose first line is the secret.
     pub secret: Option<&'a str>,
+    /// Whether there is no secret.
+    pub is_open: bool,
     /// How many minutes a session may be silent, or 0 if it may be so forever.
     pub idle: u64,
-    /// After how many connections it closes.
+    /// After how many sessions it closes.
     pub connections: u64,
 }
 

@@ -4,14 +4,14 @@
 mod arguments;
 mod asked;
 mod program;
-mod secret;
 mod unopened;
 
 pub use arguments::settings;
 pub use asked::{HostSettings, Settings};
 pub use program::{Outcome, ServerSettings, refuse_words, run};
-pub use secret::{NoSecret, refuse_secret, secret_in};
-pub use unopened::{refuse_file, refuse_port};
+pub use unopened::{
+    refuse_both, refuse_file, refuse_folder, refuse_port, refuse_secret_file, tell_secret_file,
+};
 
 /// Of `fb_bench`, for the crates above.
 pub mod bench {

@@ -1,7 +1,7 @@
 -- What calls with a seat add to its receipts.
 use Rattle.std.proofs.Common.{◌≡◌, ℕ, [], ◌∷◌, ◌++◌, ◌∙◌, Err, List, Ok, Option, Result, ap, append-nil, append_assoc, inl, inr, refl, subst, sym}
 use Rattle.fb_wire.specs.History.Machine.{Call}
-use Rattle.fb_shared.specs.{Locked.Jobs.declared.key.Key.{Key}, Locked.Rolling.{MayReturn}, Locked.Runs.{Empty, IsRun, Works}}
+use Rattle.fb_shared.specs.{Locked.Jobs.declared.keys.key.Key.{Key}, Locked.Rolling.{MayReturn}, Locked.Runs.{Empty, IsRun, Works}}
 use Rattle.fb_shared.specs.{Locked.Seats.{IsReceiptOf, ReceiptView, SeatView, seat_after}, Locked.declared.locked.SharedRefused.{SharedRefused}}
 use Rattle.fb_shared.specs.Locked.declared.look.WorkEnd.{WorkEnd}
 use Rattle.fb_serve.specs.AddedReceipts.{AddsRun}

@@ -1,5 +1,5 @@
 //! What is kept of a caller: its seat, the receipts of its calls, and the keys that it must give back.
-ghost use Rattle.std.specs.Prelude.{◌≡◌, []};
+ghost use Rattle.std.specs.Prelude.{◌≡◌, ◌≤◌, ◌<◌, [], Contains, vec_capacity, vec_len};
 ghost use Rattle.fb_serve.specs.AddedReceipts.{AddsRun};
 
 use fb_shared::{Receipt, Seat, Shared};
@@ -38,14 +38,19 @@ impl CallerState {
     }
 }
 
-/// Adds a key that was taken.
-pub fn hold(held: &mut Vec<Held>, it: Held) {
+/// Adds a key that was taken, if there is room.
+pub fn hold(held: &mut Vec<Held>, it: Held)
+    ensures { vec_len held.old < vec_capacity held.old → Contains held.new.items it }
+{
     forget(held, &it.key);
     let _ = held.push(it);
 }
 
 /// Removes a key that is settled.
-pub fn forget(held: &mut Vec<Held>, key: &Key) {
+pub fn forget(held: &mut Vec<Held>, key: &Key)
+    ensures fewer { vec_len held.new ≤ vec_len held.old }
+    ensures room { vec_capacity held.new ≡ vec_capacity held.old }
+{
     held.retain(|it| it.key != *key);
 }
 

@@ -1,6 +1,7 @@
 //! A worker, which begins again after it found no memory.
-ghost use Rattle.std.specs.Prelude.{◌≡◌};
-ghost use Rattle.fb_serve.specs.AddedReceipts.{AddsRun};
+ghost use Rattle.std.specs.Prelude.{◌≡◌, ◌<◌, Contains, Some, vec_capacity, vec_len};
+ghost use Rattle.fb_shared.specs.{Locked.Jobs.Reads.{PlainJob}, Locked.Seats.{ReceiptView}};
+ghost use Rattle.fb_serve.specs.{AddedReceipts.{AddsRun}, Unsettled.{IsLastTake}};
 
 use crate::caller_state::{CallerState, Held, give_back_held, hold};
 use fb_shared::bench::Reply;
@@ -63,6 +64,10 @@ fn look_once<R: Wait>(rt: &R, alloc: Global, shared: &Shared, state: &mut Caller
 fn hold_unsettled(state: &mut CallerState)
     ensures seat { state.new.seat ≡ state.old.seat }
     ensures receipts { state.new.receipts.items ≡ state.old.receipts.items }
+    ensures held { (last : ReceiptView) (job : PlainJob)
+        → IsLastTake state.old.receipts.items last job
+        → vec_len state.old.held < vec_capacity state.old.held
+        → Contains state.new.held.items (record { key = job.key; since = last.number }) }
 {
     if let Some(it) = unsettled(&state.receipts) {
         hold(&mut state.held, it);
@@ -70,7 +75,10 @@ fn hold_unsettled(state: &mut CallerState)
 }
 
 /// The key of the last receipt, if it is of a take: no result was delivered for that key, and it was not given back.
-fn unsettled(receipts: &[Receipt]) -> Option<Held> {
+fn unsettled(receipts: &[Receipt]) -> Option<Held>
+    ensures { (last : ReceiptView) (job : PlainJob) → IsLastTake receipts.now last job
+        → result ≡ Some (record { key = job.key; since = last.number }) }
+{
     let receipt = receipts.last()?;
     match receipt.reply() {
         Reply::Job(wanted) => Some(Held {

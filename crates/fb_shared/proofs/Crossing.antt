@@ -21,9 +21,9 @@ use Rattle.fb_locked.specs.Parse.contracts.source.Source as Source
 use Rattle.fb_types.specs.Network.contracts.flat.Flat as Flat
 use Rattle.fb_types.specs.contracts.nets.Net as Net
 use Rattle.fb_locked.specs.Deploy.contracts.planning.Deploy as Deploy
-use Rattle.fb_locked.specs.Jobs.contracts.value.Value as Value
-use Rattle.fb_locked.specs.Jobs.contracts.read.Read as Read
-use Rattle.fb_locked.specs.Jobs.contracts.derivation.Derivation as Derivation
+use Rattle.fb_locked.specs.Jobs.contracts.values.value.Value as Value
+use Rattle.fb_locked.specs.Jobs.contracts.keys.read.Read as Read
+use Rattle.fb_locked.specs.Jobs.contracts.values.derivation.Derivation as Derivation
 use Rattle.fb_locked.specs.History.contracts.record.Reply as Reply
 use Rattle.fb_locked.specs.History.contracts.record.Record as Record
 use Rattle.fb_locked.specs.contracts.seat.Receipt as Receipt

@@ -2,7 +2,7 @@
 use Rattle.std.proofs.Common.{ℕ, ◌≡◌, ◌+◌, ◌<◌, List, [], ◌∷◌, ◌++◌, Option, Some, None, refl, sym, ◌∙◌, ap, subst, arith, length, min, take, get_or, append-nil, append_assoc, length-append}
 use Rattle.std.proofs.{lemmas.List.{take_more, length-map, map_push}, lemmas.List.Elements.{Contains-append_left, Contains-append_right, filter_map-append}}
 use Rattle.std.specs.{Prelude.{map, unwrap_or}, List.{cons_option}}
-use Rattle.fb_network.specs.{declared.count.TheConstants.{INSTANCE_LIMIT}, declared.network.InstanceKind.{InstanceKind}}
+use Rattle.fb_network.specs.{declared.flat.count.TheConstants.{INSTANCE_LIMIT}, declared.network.InstanceKind.{InstanceKind}}
 use Rattle.fb_network.specs.{declared.network.InstanceKind.TheVariants.{Block, Subapplication}, declared.network.Instance.{Instance}, Plain.{PlainNetwork}}
 use Rattle.fb_network.specs.{Network.{View}, Instances.{Held, held_as, held_within, AreInstances, NoInstance, ThenBlock, ThenSubapplication}, Count.{IsCount}}
 use Rattle.fb_tree.specs.Tree.{InstanceTree}

@@ -4,8 +4,8 @@ use Rattle.std.proofs.Math.Seq.{take-suc}
 use Rattle.std.specs.Prelude.{Contains, IfOk, option_map}
 use Rattle.fb_tree.specs.Tree.{DeclTree, system_configuration}
 use Rattle.fb_iface.specs.Library.View.{Sources, tree_at}
-use Rattle.fb_network.specs.{declared.count.TheConstants.{INSTANCE_LIMIT}, declared.network.Instance.{Instance}, Network.{View}}
-use Rattle.fb_network.specs.declared.application.FlatApplication.{FlatApplication}
+use Rattle.fb_network.specs.{declared.flat.count.TheConstants.{INSTANCE_LIMIT}, declared.network.Instance.{Instance}, Network.{View}}
+use Rattle.fb_network.specs.declared.flat.application.FlatApplication.{FlatApplication}
 use Rattle.fb_tree.proofs.Text.Members.{contains_nothing, contains_flat_map}
 use Rattle.fb_types.specs.{Applications.{applications_of}, Networks.{network_of}, ByName.{applications_at}, declared.systems.Application.{Application}}
 use Rattle.fb_types.specs.Tables.{IsUnitCount, is_system_tree}

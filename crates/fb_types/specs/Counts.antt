@@ -1,7 +1,7 @@
 -- Counts of instances, by the names of types.
 use Rattle.std.specs.{Prelude.{ℕ, ◌≡◌, ◌+◌, List, ◌++◌, Option, None, Some, Contains, min, unwrap_or}, List.{filter_map}}
 use Rattle.fb_tree.specs.Tree.{DeclTree, InstanceTree}
-use Rattle.fb_network.specs.{declared.count.TheConstants.{INSTANCE_LIMIT}, declared.network.InstanceKind.{InstanceKind}}
+use Rattle.fb_network.specs.{declared.flat.count.TheConstants.{INSTANCE_LIMIT}, declared.network.InstanceKind.{InstanceKind}}
 use Rattle.fb_network.specs.{declared.network.InstanceKind.TheVariants.{Block, Subapplication}, declared.network.Instance.{Instance}, Plain.{PlainNetwork}}
 use Rattle.fb_network.specs.{Network.{View}, Count.{IsCount}}
 use Rattle.fb_types.specs.{Networks.{plain_instance}, Units.{own_instances}}

@@ -4,9 +4,9 @@ use Rattle.std.specs.BTreeMap.{is_at}
 use Rattle.fb_tree.specs.{Text.Order.{name_cmp}, Tree.{DeclTree, block_type, adapter_type, subapplication_type, system_configuration, structure_type}}
 use Rattle.fb_tree.specs.declared.kinds.UnitKind.TheVariants as kinds
 use Rattle.fb_iface.specs.Library.View.{Sources, tree_at}
-use Rattle.fb_network.specs.{declared.count.TheConstants.{INSTANCE_LIMIT}, declared.network.Port.{Port}, Plain.{PlainNetwork}, PlainFlat.{PlainFlat}}
+use Rattle.fb_network.specs.{declared.flat.count.TheConstants.{INSTANCE_LIMIT}, declared.network.Port.{Port}, Plain.{PlainNetwork}, PlainFlat.{PlainFlat}}
 use Rattle.fb_network.specs.{Network.{View}, Instances.{Held, AreInstances}, Clean.{IsCleanThroughout}, Part.{IsFlatInWhole, SameAdapters}}
-use Rattle.fb_network.specs.{Ready.{Nets, IsFinished, AreFinished}, SystemFlat.{IsSystemFlat}, declared.application.FlatApplication.{FlatApplication}}
+use Rattle.fb_network.specs.{Ready.{Nets, IsFinished, AreFinished}, SystemFlat.{IsSystemFlat}, declared.flat.application.FlatApplication.{FlatApplication}}
 use Rattle.fb_types.specs.{Counts.{IsCounted}, ByName.{declared, kind_at}, declared.systems.Application.{Application}, Hints.{flat_of_hint, is_whole_hint}}
 use Rattle.fb_types.specs.{Net.{PlainNet}, Units.{AreFlatApplications, Holds, IsFlatApplication}}
 

@@ -3,9 +3,9 @@ use Rattle.std.specs.Prelude.{ℕ, ◌≡◌, ◌≤◌, ◌<◌, ◌⊎◌, Boo
 use Rattle.fb_tree.specs.Tree.{DeclTree, block_type, adapter_type, subapplication_type, system_configuration, structure_type}
 use Rattle.fb_tree.specs.declared.kinds.UnitKind.TheVariants.{Subapplication, System}
 use Rattle.fb_iface.specs.Library.View.{Sources, tree_at}
-use Rattle.fb_network.specs.{declared.count.TheConstants.{INSTANCE_LIMIT}, declared.network.Instance.{Instance}, Plain.{PlainNetwork}, PlainFlat.{PlainFlat}}
+use Rattle.fb_network.specs.{declared.flat.count.TheConstants.{INSTANCE_LIMIT}, declared.network.Instance.{Instance}, Plain.{PlainNetwork}, PlainFlat.{PlainFlat}}
 use Rattle.fb_network.specs.{Network.{View}, Instances.{Held, AreInstances}, FlatNet.{IsFlat}, SystemFlat.{IsSystemFlat}}
-use Rattle.fb_network.specs.declared.application.FlatApplication.{FlatApplication}
+use Rattle.fb_network.specs.declared.flat.application.FlatApplication.{FlatApplication}
 use Rattle.fb_types.specs.{Applications.{applications_of}, ByName.{applications_at, declared, kind_at}, Networks.{network_of}}
 use Rattle.fb_types.specs.declared.systems.Application.{Application}
 

@@ -1,7 +1,7 @@
 //! How many instances units hold, counted by their declarations.
 ghost use Rattle.std.specs.{Prelude.{◌≡◌, ◌+◌, true, false, min, unwrap_or, OnOk, Some, map}, BTreeMap.{get}};
 ghost use Rattle.fb_iface.specs.Library.View.{tree_at};
-ghost use Rattle.fb_network.specs.declared.count.TheConstants as limits;
+ghost use Rattle.fb_network.specs.declared.flat.count.TheConstants as limits;
 ghost use Rattle.fb_tree.specs.{Text.Order.{name_cmp}, Tree.{DeclTree, application_tree, decl_tree, instance_tree}};
 ghost use Rattle.fb_types.specs.{Applications.{plain_application}, Counts.{CountsAll, CountsOn, HasCount, counted_with, plain_instances}};
 ghost use Rattle.fb_types.specs.{Networks.{plain_instance}, Tables.{SameOthers, is_subapplication_in, is_subapplication_tree}};

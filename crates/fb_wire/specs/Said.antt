@@ -2,8 +2,8 @@
 use Rattle.std.specs.Prelude.{ℕ, None, Option, Some, false, true}
 use Rattle.serde_json.specs.Data.{Data}
 use Rattle.fb_messages.specs.Jobs.Reads.{PlainJob}
-use Rattle.fb_messages.specs.Replies.{checkpointed, committed, delivered, job_given, no_job, pending_said, refused, refused_base, refused_unit, returned, value_said}
-use Rattle.fb_messages.specs.{ReadReplies.{showing_said}, ReplyView.{refusal_text}}
+use Rattle.fb_messages.specs.Replies.{checkpointed, committed, delivered, job_given, no_job, pending_said, refused, refused_base, refused_unit, returned, showing_said, value_said}
+use Rattle.fb_messages.specs.ReplyView.{refusal_text}
 use Rattle.fb_bench.specs.History.Reads.{Showing}
 use Rattle.fb_bench.specs.History.Checkpoints.{Checking, KeptUpTo, OverNumbers, OverUnits}
 use Rattle.fb_bench.specs.History.Machine.{Finds, OfAsk, OfCommit, OfDeliver, OfGiveBack, OfTake, Reply, Shown, Unknown, Waits}

@@ -13,7 +13,6 @@ use fb_messages::{Reply, request_in};
 use fb_streams::{Sink, StreamError};
 use serde_json::Value;
 use std::alloc::{AllocError, Global};
-use std::mem;
 
 fn is_blank(line: &[u8]) -> bool
     ensures { result ≡ is_blank line.now }
@@ -60,8 +59,6 @@ pub fn write_all<S: Sink>(writer: &mut S, bytes: &[u8]) -> Result<(), StreamErro
 pub(crate) struct Conversation {
     /// The jobs that were taken, in the order of their numbers.
     pub(crate) held: Vec<Job>,
-    /// The bytes of a reply, which the next one takes over.
-    room: Vec<u8>,
     /// What was read of the next line.
     pub(crate) line: Vec<u8>,
 }
@@ -73,7 +70,6 @@ impl Conversation {
     {
         Conversation {
             held: Vec::new(alloc),
-            room: Vec::new(alloc),
             line: Vec::new(alloc),
         }
     }
@@ -100,15 +96,11 @@ pub(crate) fn say_line<D: Desk, S: Sink>(
     let Ok(reply) = answer_line(alloc, desk, &mut conversation.held, &conversation.line) else {
         return Err(RunEnd::Memory);
     };
-    let room = mem::replace(&mut conversation.room, Vec::new(alloc));
-    let Ok(text) = reply.line(room) else {
+    let Ok(text) = reply.line(alloc) else {
         return Err(RunEnd::Memory);
     };
     match write_all(writer, &text) {
-        Ok(()) => {
-            conversation.room = text;
-            Ok(())
-        }
+        Ok(()) => Ok(()),
         Err(_) => Err(RunEnd::WriteFailed),
     }
 }

@@ -4,11 +4,15 @@
 #[cfg(test)]
 mod admission;
 #[cfg(test)]
+mod crowds;
+#[cfg(test)]
 mod epochs;
 #[cfg(test)]
 mod peers;
 #[cfg(test)]
 mod play;
+#[cfg(test)]
+mod proofs;
 #[cfg(test)]
 mod reads;
 #[cfg(test)]

@@ -1,5 +1,6 @@
 //! What a peer does, and what it gets then.
-use std::alloc::Global;
+use fb_secret::{client_line, host_answer};
+use std::alloc::{AllocError, Global};
 use std::io::{ErrorKind, Read, Write};
 use std::net::{Net, OpenStream, Shutdown, TcpListener, TcpStream};
 use std::time::{Clock, Duration, Instant};
@@ -8,12 +9,23 @@ use std::{io, thread};
 /// How many milliseconds a peer waits for what it must get, and for a worker.
 const BOUND: u64 = 20_000;
 
+/// How many commits of others may be made until the faults of a unit are there.
+const MEANWHILE: usize = 20;
+
+/// How many fields a structure has that uses another one.
+const FIELDS: u32 = 300;
+
 /// How many milliseconds pass from one byte to the next where a peer sends one now and then, and how many bytes it sends.
 const NOW_AND_THEN: u64 = 20;
 
 const BYTES: u32 = 500;
 
-/// How many microseconds pass from one line to the next where a peer reads no reply: it must still send when the host has given up.
+/// How many milliseconds a peer sends lines at most and reads no reply.
+const FLOOD: u64 = 40_000;
+
+/// How many lines it sends at once, and how many microseconds pass from one time to the next: it must still send when the host has given up.
+const LINES_AT_ONCE: u32 = 64;
+
 const BETWEEN_LINES: u64 = 200;
 
 /// How many bytes a peer reads of a line or to the end.
@@ -24,6 +36,11 @@ const LOOKS: u32 = 200_000;
 
 /// The question about the last of the units U0, U1 and so on, if there are 10 to 99: names are in order.
 const ASK_LAST: &str = r#"{"op":"ask","kind":"faults","unit":"U9"}"#;
+
+const TAKE: &str = r#"{"op":"take"}"#;
+
+/// The challenge of each peer.
+const CHALLENGE: &[u8] = b"fedcba9876543210fedcba9876543210fedcba9876543210fedcba9876543210";
 
 /// A peer that has connected.
 pub(crate) fn connect<R: Net<Listener = TcpListener, Stream = TcpStream>>(
@@ -75,6 +92,32 @@ fn ask(alloc: Global, stream: &TcpStream, line: &str) -> io::Result<String> {
 /// Gets a line.
 pub(crate) fn get(alloc: Global, stream: &TcpStream) -> io::Result<String> {
     read(alloc, stream, true)
+}
+
+/// Gets the challenge of a host.
+pub(crate) fn take_challenge(alloc: Global, stream: &TcpStream) -> io::Result<String> {
+    let line = get(alloc, stream)?;
+    let challenge = line
+        .as_str()
+        .strip_prefix("{\"challenge\":\"")
+        .and_then(|it| it.strip_suffix("\"}\n"));
+    let challenge = challenge.ok_or(ErrorKind::InvalidData)?;
+    Ok(String::from_str(alloc, challenge)?)
+}
+
+/// Gets the challenge of a host, and proves that it has the secret. It gives that both have proved it, or what it gets in the place of the host's proof.
+pub(crate) fn prove(alloc: Global, stream: &TcpStream, secret: &str) -> io::Result<String> {
+    let challenge = take_challenge(alloc, stream)?;
+    let (secret, challenge) = (secret.as_bytes(), challenge.as_bytes());
+    let line = client_line(alloc, secret, challenge, CHALLENGE)?;
+    let mut writer = stream;
+    writer.write_all(&line)?;
+    let answer = get(alloc, stream)?;
+    let wanted = host_answer(alloc, secret, challenge, &line)?;
+    if wanted.is_some_and(|wanted| wanted.as_slice() == answer.as_bytes()) {
+        return Ok(String::from_str(alloc, "proved\n")?);
+    }
+    Ok(answer)
 }
 
 /// Sends a line, and counts how often the text is in the one that it gets.
@@ -138,6 +181,99 @@ pub(crate) fn commit_all<R: Clock>(
     Ok(known)
 }
 
+// The fields of a structure that uses another one often, so that its check takes longer than a commit.
+fn fields(alloc: Global) -> Result<String, AllocError> {
+    let mut fields = String::new(alloc);
+    for number in 0..FIELDS {
+        fields.push_str(format!(in alloc; "F{number} : T; ")?.as_str())?;
+    }
+    Ok(fields)
+}
+
+// Commits this number of structures that use one more, and then that one.
+fn commit_users(alloc: Global, stream: &TcpStream, users: usize) -> io::Result<String> {
+    let fields = fields(alloc)?;
+    for number in 0..users {
+        let line = format!(in alloc;
+            r#"{{"op":"commit","changes":[{{"put":"T{number}","base":0,"text":"TYPE T{number} : STRUCT {fields}END_STRUCT END_TYPE"}}]}}"#
+        )?;
+        ask(alloc, stream, line.as_str())?;
+    }
+    let first =
+        r#"{"op":"commit","changes":[{"put":"T","base":0,"text":"TYPE T : STRUCT F : INT; END_STRUCT END_TYPE"}]}"#;
+    ask(alloc, stream, first)
+}
+
+/// Commits this number of structures that use one more, and then that one this number of times, and reads no reply to these.
+pub(crate) fn storm(
+    alloc: Global,
+    stream: &TcpStream,
+    users: usize,
+    times: usize,
+) -> io::Result<String> {
+    commit_users(alloc, stream, users)?;
+    for base in users..users.saturating_add(times) {
+        let base = base.saturating_add(1);
+        let line = format!(in alloc;
+            "{{\"op\":\"commit\",\"changes\":[{{\"put\":\"T\",\"base\":{base},\"text\":\"TYPE T : STRUCT F : INT; END_STRUCT END_TYPE\"}}]}}\n"
+        )?;
+        say(stream, line.as_str())?;
+    }
+    Ok(String::new(alloc))
+}
+
+/// Commits a unit A with this number of faults, and asks for work. It gives the reply to that.
+pub(crate) fn commit_faults(alloc: Global, stream: &TcpStream, count: usize) -> io::Result<String> {
+    let mut line = String::from_str(
+        alloc,
+        r#"{"op":"commit","changes":[{"put":"A","base":0,"text":"FUNCTION_BLOCK A EVENT_INPUT E WITH X"#,
+    )?;
+    for _ in 1..count {
+        line.push_str(",X")?;
+    }
+    line.push_str(r#"; END_EVENT END_FUNCTION_BLOCK"}]}"#)?;
+    ask(alloc, stream, line.as_str())?;
+    ask(alloc, stream, r#"{"op":"work","turns":9}"#)
+}
+
+// How many commits were made.
+fn commits(alloc: Global, stream: &TcpStream) -> io::Result<usize> {
+    let status = ask(alloc, stream, r#"{"op":"status"}"#)?;
+    let behind = status.as_str().split_once(r#""commits":"#);
+    let number = behind
+        .and_then(|(_, behind)| behind.split_once(','))
+        .and_then(|(it, _)| it.parse::<usize>().ok());
+    Ok(number.ok_or(ErrorKind::InvalidData)?)
+}
+
+/// Commits a unit with a fault, and asks for its faults until they are there. It gives the last reply, or that many commits were made meanwhile.
+pub(crate) fn see<R: Clock>(
+    rt: &R,
+    alloc: Global,
+    stream: &TcpStream,
+    unit: &str,
+) -> io::Result<String> {
+    let begun = Instant::now(rt)?;
+    let commit = format!(in alloc;
+        r#"{{"op":"commit","changes":[{{"put":"{unit}","base":0,"text":"FUNCTION_BLOCK {unit} EVENT_INPUT E WITH X; END_EVENT END_FUNCTION_BLOCK"}}]}}"#
+    )?;
+    let question = format!(in alloc; r#"{{"op":"ask","kind":"faults","unit":"{unit}"}}"#)?;
+    let mut known = ask(alloc, stream, commit.as_str())?;
+    let first = commits(alloc, stream)?;
+    for _ in 0..LOOKS {
+        known = ask(alloc, stream, question.as_str())?;
+        let is_late = Duration::from_millis(BOUND) < begun.elapsed(rt)?;
+        if is_late || known.as_str() != "{\"answer\":\"pending\"}\n" {
+            break;
+        }
+    }
+    let further = commits(alloc, stream)?.saturating_sub(first);
+    if MEANWHILE < further {
+        return Ok(format!(in alloc; "{further} commits meanwhile\n")?);
+    }
+    Ok(known)
+}
+
 /// Sends a blank now and then, until its stream ends. It gives what it got, or that the stream is still open.
 pub(crate) fn drip(alloc: Global, stream: &TcpStream) -> io::Result<String> {
     stream.set_read_timeout(Some(Duration::from_millis(NOW_AND_THEN)))?;
@@ -158,21 +294,43 @@ fn is_open(stream: &TcpStream) -> bool {
     }
 }
 
-/// Sends the line again and again and reads no reply, until its stream ends. It gives nothing, or that the stream is still open.
+// The line, again and again.
+fn repeated(alloc: Global, line: &str) -> io::Result<String> {
+    let mut lines = String::new(alloc);
+    for _ in 0..LINES_AT_ONCE {
+        lines.push_str(line)?;
+        lines.push('\n')?;
+    }
+    Ok(lines)
+}
+
+// Reads a byte, if one has come.
+fn sip(stream: &TcpStream) {
+    let mut stream = stream;
+    let mut byte = [0u8; 1];
+    let _ = stream.read(&mut byte);
+}
+
+/// Sends the line again and again until its stream ends, and reads no reply, or a byte of them now and then. It gives nothing, or that the stream is still
+/// open.
 pub(crate) fn flood<R: Clock>(
     rt: &R,
     alloc: Global,
     stream: &TcpStream,
     line: &str,
+    sips: bool,
 ) -> io::Result<String> {
     let begun = Instant::now(rt)?;
-    let line = format!(in alloc; "{line}\n")?;
+    let lines = repeated(alloc, line)?;
     stream.set_write_timeout(Some(Duration::from_millis(NOW_AND_THEN)))?;
     let mut is_open = true;
     for _ in 0..LOOKS {
-        is_open = takes(stream, line.as_str());
-        if !is_open || Duration::from_millis(BOUND) < begun.elapsed(rt)? {
+        is_open = takes(stream, lines.as_str());
+        if !is_open || Duration::from_millis(FLOOD) < begun.elapsed(rt)? {
             break;
+        }
+        if sips {
+            sip(stream);
         }
         thread::sleep(rt, Duration::from_micros(BETWEEN_LINES));
     }
@@ -191,6 +349,27 @@ fn takes(stream: &TcpStream, text: &str) -> bool {
 pub(crate) fn leave(alloc: Global, stream: &TcpStream) -> io::Result<String> {
     let _ = stream.shutdown(Shutdown::Write);
     rest(alloc, stream)
+}
+
+/// Sends a line, and reads all that it gets.
+pub(crate) fn end(alloc: Global, stream: &TcpStream, line: &str) -> io::Result<String> {
+    let _ = say(stream, format!(in alloc; "{line}\n")?.as_str());
+    rest(alloc, stream)
+}
+
+/// Takes a key, as soon as there is one. It gives the reply.
+pub(crate) fn take<R: Clock>(rt: &R, alloc: Global, stream: &TcpStream) -> io::Result<String> {
+    let begun = Instant::now(rt)?;
+    let mut taken = String::new(alloc);
+    for _ in 0..LOOKS {
+        taken = ask(alloc, stream, TAKE)?;
+        let is_late = Duration::from_millis(BOUND) < begun.elapsed(rt)?;
+        if is_late || taken.as_str() != "{\"job\":0}\n" {
+            break;
+        }
+        thread::sleep(rt, Duration::from_millis(NOW_AND_THEN));
+    }
+    Ok(taken)
 }
 
 /// Reads all that it gets.

@@ -3,7 +3,7 @@ use crate::play::compare;
 use std::test::Fail;
 
 const EACH: &str = r#"
-== Each read, of an empty workbench, after a commit, after its work, and after a removal / connections 1 / high 1 / low 255 / calls 9, 9
+== Each read, of an empty workbench, after a commit, after its work, and after a removal / connections 2 / high 1 / low 255 / calls 9, 9
 0 asks {"op":"status"} => {"status":{"calls":0,"commits":0,"keys":0,"pending":0,"session":1,"units":0,"workbench":"000000000000000100000000000000ff"}}
 0 asks {"op":"units"} => {"at":0,"units":[]}
 0 asks {"op":"text","unit":"A"} => {"refused":"NoSuchUnit","unit":"A"}
@@ -34,6 +34,8 @@ passed 30
 0 asks {"op":"watch","after":10,"wait":30000} => {"at":9,"missed":true}
 within 20000
 0 leaves
+1 asks {"op":"text","unit":"C"} => {"at":9,"base":2,"text":"FUNCTION_BLOCK C END_FUNCTION_BLOCK"}
+1 leaves
 
 == What a read refuses, and in which order / connections 1 / calls 0, 0
 0 asks {"op":"text"} => {"refused":"BadRequest"}

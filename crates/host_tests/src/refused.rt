@@ -1,6 +1,9 @@
 //! A session of a host of which each allocation is refused in turn, also those of a history that begins again. Another session then continues with its seat,
 //! and is given each key that the first has taken; and the workbench closes with the receipts of all calls since the start.
-use fb_host::{Identity, ReceiptStore, SessionResult, give_back_all, run_host_session};
+use fb_host::{
+    COMMIT_WAIT, Identity, KEY_TIMEOUT, Leases, Pace, ReceiptStore, SessionResult, give_back_all,
+    run_host_session,
+};
 use fb_serve::CallerState;
 use fb_shared::Shared;
 use fb_wire::bench::Limits;
@@ -90,6 +93,7 @@ fn say_lines<R: Wait + Clock>(
     alloc: Global,
     shared: &Shared,
     store: &ReceiptStore,
+    pace: &Pace,
     state: CallerState,
     requests: &str,
     number: u32,
@@ -97,12 +101,15 @@ fn say_lines<R: Wait + Clock>(
     let mut output = Vec::with_capacity(alloc, 1000)?;
     let mut feed = MemoryFeed::new(requests.as_bytes(), 8192, u64::MAX);
     let mut sink = IntoWrite::new(&mut output);
+    let leases = Leases::new(alloc, KEY_TIMEOUT);
     refuse(alloc, number);
     let SessionResult {
         end,
         mut state,
         session_receipts: _,
-    } = run_host_session(rt, alloc, shared, store, state, &mut feed, &mut sink, 1000);
+    } = run_host_session(
+        rt, alloc, shared, store, &leases, pace, state, &mut feed, &mut sink, 1000,
+    );
     let is_refused = was_refused(alloc);
     give_back_all(rt, shared, store, &mut state);
     let session = Session {
@@ -128,6 +135,7 @@ fn is_closed<R: Wait>(
     alloc: Global,
     shared: Shared,
     store: ReceiptStore,
+    pace: Pace,
     state: CallerState,
 ) -> Result<bool, Fail> {
     let receipts = store.into_receipts(shared.before(rt));
@@ -138,6 +146,7 @@ fn is_closed<R: Wait>(
     } = state;
     let mut seats = Vec::new(alloc);
     seats.push(seat)?;
+    seats.push(pace.into_seat())?;
     match shared.close(alloc, seats, &receipts) {
         Ok(closed) => Ok(closed.bench.len() == receipts.len()),
         Err(_) => Ok(false),
@@ -147,14 +156,24 @@ fn is_closed<R: Wait>(
 // Sessions with one seat, the first of the two without the allocation of this number.
 fn tried<R: Wait + Clock>(rt: &R, alloc: Global, talk: Talk, number: u32) -> Result<Session, Fail> {
     let limits = Limits::new(8, 2).ok_or("limits")?;
-    let (shared, mut seats) = Shared::rolling(alloc, limits, 1, Identity { high: 7, low: 8 })?;
+    let (shared, mut seats) = Shared::rolling(alloc, limits, 2, Identity { high: 7, low: 8 })?;
     let store = ReceiptStore::new(alloc, limits.history());
+    let pace = Pace::new(seats.pop().ok_or("no seat")?, 0, COMMIT_WAIT);
     let state = CallerState::new(alloc, seats.pop().ok_or("no seat")?);
-    let (state, _) = say_lines(rt, alloc, &shared, &store, state, talk.before, 0)?;
-    let (state, first) = say_lines(rt, alloc, &shared, &store, state, talk.requests, number)?;
-    let (state, last) = say_lines(rt, alloc, &shared, &store, state, talk.requests, 0)?;
+    let (state, _) = say_lines(rt, alloc, &shared, &store, &pace, state, talk.before, 0)?;
+    let (state, first) = say_lines(
+        rt,
+        alloc,
+        &shared,
+        &store,
+        &pace,
+        state,
+        talk.requests,
+        number,
+    )?;
+    let (state, last) = say_lines(rt, alloc, &shared, &store, &pace, state, talk.requests, 0)?;
     let is_done = last.end == RunEnd::End && last.output.ends_with(talk.last.as_bytes());
-    let is_closed = is_closed(rt, alloc, shared, store, state)?;
+    let is_closed = is_closed(rt, alloc, shared, store, pace, state)?;
     if !is_done || !is_closed || !is_right(&first, talk.replies) {
         return Err(Fail::from("another end"));
     }

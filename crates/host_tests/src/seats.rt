@@ -37,14 +37,15 @@ const CONVERSATIONS: &str = r#"
 1 asks {"op":"commit","changes":[{"put":"A","base":0,"text":"FUNCTION_BLOCK A END_FUNCTION_BLOCK"}]} => {"commit":81}
 1 leaves
 
-== The second connection comes while the first sits, and the third gets the seat once the first has gone / connections 3 / history 20 / calls 3, 3
-// The second learns that before it says anything.
+== The second connection comes while the first sits, and the third gets the seat once the first has gone / connections 2 / history 20 / calls 3, 3 / errors bench61499: connections turned away: 2, for a wrong secret: 0
+// The second learns that before it says anything, and another one that has said much.
 0 asks {"op":"ask","kind":"net","unit":"A"} => {"refused":"NoSuchKey"}
 1 is closed => {"refused":"NoSeat"}
+2 ends {"op":"take"} => {"refused":"NoSeat"}
 0 asks {"op":"ask","kind":"net","unit":"A"} => {"refused":"NoSuchKey"}
 0 leaves
-2 asks {"op":"commit","changes":[{"put":"A","base":0,"text":"FUNCTION_BLOCK A END_FUNCTION_BLOCK"}]} => {"commit":1}
-2 leaves
+3 asks {"op":"commit","changes":[{"put":"A","base":0,"text":"FUNCTION_BLOCK A END_FUNCTION_BLOCK"}]} => {"commit":1}
+3 leaves
 
 == The next session is given the keys again that a session took and left / connections 6 / history 100 / calls 36, 36
 // The second session leaves in the middle of a line, and the third works for all keys.
@@ -90,6 +91,16 @@ const CONVERSATIONS: &str = r#"
 1 leaves
 2 asks {"op":"take"} => {"job":1,"kind":"faults","unit":"A"}
 2 leaves
+
+== A session keeps a key and stays: the host gives it back, and a late result does no harm / sessions 2 / connections 2 / key 100 / history 1000 / calls any
+0 asks {"op":"commit","changes":[{"put":"A","base":0,"text":"FUNCTION_BLOCK A END_FUNCTION_BLOCK"}]} => {"commit":1}
+0 asks {"op":"take"} => {"job":1,"kind":"faults","unit":"A"}
+1 takes => {"job":1,"kind":"faults","unit":"A"}
+1 asks {"op":"deliver","job":1} => {"delivered":"accepted"}
+0 asks {"op":"deliver","job":1} => {"refused":"NotPending"}
+0 asks {"op":"ask","kind":"faults","unit":"A"} => {"faults":[]}
+0 leaves
+1 leaves
 "#;
 
 #[test]

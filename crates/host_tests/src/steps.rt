@@ -3,6 +3,8 @@
 //! | Step | What it is |
 //! |---|---|
 //! | `connect 6` | this number of peers connect; the next one also connects by its first step |
+//! | `0 is challenged` | it gets a challenge |
+//! | `0 proves SECRET => proved` | it gets a challenge, proves that it has this secret, and gets the proof of the host; or what it gets in the place of that |
 //! | `0 says TEXT` | the peer sends this, where `\n` and `\r` are ends of lines |
 //! | `0 asks LINE => REPLY` | it sends a line, and gets one |
 //! | `0 repeats 30 LINE => REPLY` | the same, this number of times |
@@ -10,31 +12,46 @@
 //! | `0 counts TEXT in LINE => 3` | it sends a line, and gets one with this text this number of times |
 //! | `0 puts 80` | it commits this number of units, one after another |
 //! | `0 commits 80 => REPLY` | it commits this number of units, from 10 to 99, and gets this of the last one once workers have checked all of them |
+//! | `0 storms 300 1000` | it commits this number of structures that use one more, and then that one this number of times, and reads no reply |
+//! | `0 sees ZZ => REPLY` | it commits this unit with a fault, and gets this of its faults before many further commits are made |
+//! | `0 errs 9000 => REPLY` | it commits a unit A with this number of faults and asks for work, and gets this |
 //! | `0 drips` | it sends a byte now and then, until it is closed |
 //! | `0 floods LINE` | it sends a line again and again and reads no reply, until it is closed |
+//! | `0 sips LINE` | the same, but it reads a byte of the replies now and then |
+//! | `0 takes => REPLY` | it takes a key, as soon as there is one |
+//! | `0 ends LINE => REPLY` | it sends a line, and gets this to the end, or nothing |
 //! | `0 leaves => REPLY` | it ends its sending, and gets this to the end, or nothing |
 //! | `each 0 to 63 STEP => REPLY` | each of these peers makes this step |
 //! | `leave 1 to 31 => REPLY` | each of these peers ends its sending, and gets this to the end, or nothing |
 //! | `0 is closed => REPLY` | it gets this to the end, or nothing |
-//! | `errors => TEXT` | this is what the host has printed on its errors |
+//! | `errors => TEXT` | this is what the host has printed on its errors, soon |
+//! | `errors are held` | nobody reads what the host prints on its errors |
+//! | `errors are free` | it is read again |
 //! | `passed 90` | at least this number of milliseconds have passed since the first step |
 //! | `within 9000` | at most this number |
 //! | `wait 400` | this number of milliseconds pass |
 use crate::peers::{
-    commit_all, commit_units, connect, count, drip, flood, get, leave, repeat, rest, say,
+    commit_all, commit_faults, commit_units, connect, count, drip, end, flood, get, leave, prove,
+    repeat, rest, say, see, storm, take, take_challenge,
 };
 use std::alloc::{AllocError, Global};
 use std::io::ErrorKind;
 use std::net::{Net, TcpListener, TcpStream};
-use std::sync::{Mutex, Wait};
+use std::sync::{Mutex, MutexGuard, Wait};
 use std::time::{Clock, Duration, Instant};
 use std::{io, thread};
 
-/// Where a host listens, what it prints on its errors, and when the first step was made.
+/// How often it is looked whether the host has printed something, and how many milliseconds pass from one look to the next.
+const LOOKS: u32 = 10_000;
+
+const PAUSE: u64 = 2;
+
+/// Where a host listens, what it prints on its errors, a hold of that if nobody reads it, and when the first step was made.
 #[derive(Drop)]
 struct Scene<'a> {
     port: u16,
     errors: &'a Mutex<Vec<u8>>,
+    held: Option<MutexGuard<'a, Vec<u8>>>,
     begun: Instant,
 }
 
@@ -121,6 +138,24 @@ fn printed<R: Wait>(rt: &R, alloc: Global, errors: &Mutex<Vec<u8>>) -> io::Resul
     Ok(String::from_utf8(bytes).ok().ok_or(ErrorKind::InvalidData)?)
 }
 
+// What is printed as soon as that is this, or what is printed at last.
+fn printed_soon<R: Wait + Clock>(
+    rt: &R,
+    alloc: Global,
+    errors: &Mutex<Vec<u8>>,
+    wanted: &str,
+) -> io::Result<String> {
+    let mut told = String::new(alloc);
+    for _ in 0..LOOKS {
+        told = printed(rt, alloc, errors)?;
+        if told.as_str() == wanted {
+            break;
+        }
+        thread::sleep(rt, Duration::from_millis(PAUSE));
+    }
+    Ok(told)
+}
+
 fn passed<R: Clock>(rt: &R, alloc: Global, begun: Instant, least: usize) -> io::Result<String> {
     let is_soon = begun.elapsed(rt)? < Duration::from_millis(least as u64);
     Ok(String::from_str(alloc, if is_soon { "too soon" } else { "" })?)
@@ -164,9 +199,23 @@ fn got<R: Clock>(
             Ok(String::new(alloc))
         }
         ("commits", count) => commit_all(rt, alloc, stream, number_in(count)?),
+        ("storms", words) => {
+            let (users, times) = words.split_once(' ').ok_or(ErrorKind::InvalidInput)?;
+            storm(alloc, stream, number_in(users)?, number_in(times)?)
+        }
+        ("errs", count) => commit_faults(alloc, stream, number_in(count)?),
+        ("sees", unit) => see(rt, alloc, stream, unit),
         ("drips", "") => drip(alloc, stream),
-        ("floods", line) => flood(rt, alloc, stream, line),
+        ("takes", "") => take(rt, alloc, stream),
+        ("ends", line) => end(alloc, stream, line),
+        ("floods", line) => flood(rt, alloc, stream, line, false),
+        ("sips", line) => flood(rt, alloc, stream, line, true),
         ("leaves", "") => leave(alloc, stream),
+        ("is", "challenged") => {
+            take_challenge(alloc, stream)?;
+            Ok(String::new(alloc))
+        }
+        ("proves", secret) => prove(alloc, stream, secret),
         ("is", "closed") => rest(alloc, stream),
         _ => Err(io::Error::from(ErrorKind::InvalidInput)),
     }
@@ -176,7 +225,7 @@ fn got<R: Clock>(
 fn told<R: Net<Listener = TcpListener, Stream = TcpStream> + Wait + Clock>(
     rt: &R,
     alloc: Global,
-    scene: &Scene<'_>,
+    scene: &mut Scene<'_>,
     streams: &mut Vec<TcpStream>,
     step: &str,
     wanted: &str,
@@ -186,7 +235,15 @@ fn told<R: Net<Listener = TcpListener, Stream = TcpStream> + Wait + Clock>(
         ("connect", count) => connect_all(rt, alloc, scene.port, streams, number_in(count)?),
         ("each", words) => each(rt, alloc, scene.port, streams, words, wanted),
         ("leave", range) => leave_all(alloc, streams, range, wanted),
-        ("errors", "") => printed(rt, alloc, scene.errors),
+        ("errors", "") => printed_soon(rt, alloc, scene.errors, wanted),
+        ("errors", "are held") => {
+            scene.held = Some(scene.errors.lock(rt));
+            Ok(String::new(alloc))
+        }
+        ("errors", "are free") => {
+            scene.held = None;
+            Ok(String::new(alloc))
+        }
         ("passed", least) => passed(rt, alloc, scene.begun, number_in(least)?),
         ("within", most) => within(rt, alloc, scene.begun, number_in(most)?),
         ("wait", length) => Ok(wait(rt, alloc, number_in(length)?)),
@@ -207,16 +264,17 @@ pub(crate) fn first_wrong<R: Net<Listener = TcpListener, Stream = TcpStream> + W
     errors: &Mutex<Vec<u8>>,
     steps: &str,
 ) -> io::Result<Option<String>> {
-    let scene = Scene {
+    let mut scene = Scene {
         port,
         errors,
+        held: None,
         begun: Instant::now(rt)?,
     };
     let mut streams = Vec::new(alloc);
     for line in steps.split('\n') {
         let (step, wanted) = line.split_once(" => ").unwrap_or((line, ""));
         let (step, wanted) = (text_in(alloc, step)?, lines_in(alloc, wanted)?);
-        match told(rt, alloc, &scene, &mut streams, &step, &wanted) {
+        match told(rt, alloc, &mut scene, &mut streams, &step, &wanted) {
             Ok(told) => {
                 if told.as_str() != wanted.as_str() {
                     return Ok(Some(format!(in alloc; "{line}: {told}")?));

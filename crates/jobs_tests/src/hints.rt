@@ -15,7 +15,7 @@ use std::process::Abort;
 use std::sync::Arc;
 use std::test::Fail;
 
-// Whether the key needs what stands under the name.
+// Whether the key needs the unit of this name.
 fn is_needed(alloc: Global, library: &Library, key: Key, unit: &Name) -> Result<bool, AllocError>
     ensures { IfOk result (λ is. is ≡ is_among unit.now (needs library.now key)) }
 {
@@ -87,7 +87,7 @@ pub(crate) fn job_taking(
 /// A unit, one whose net is passed, and the job and its result.
 type Row = (&'static str, &'static str, &'static str, &'static str);
 
-// Also the unit itself and those that it does not rest on, whose nets may not be taken along.
+// Also the unit itself and those that it does not rest on, whose nets may not be passed.
 const TAKEN: &[Row] = &[
     (
         "T",

@@ -9,7 +9,7 @@ use fb_text::Name;
 use std::alloc::{AllocError, Global};
 use std::test::Fail;
 
-// M stands between S and T or D, and D also holds S itself. W also rests on a type that is absent. Z maps T.
+// M is between S and T or D, and D also holds S itself. W also rests on a type that is absent. Z maps T.
 pub(crate) const NESTED: &[&str] = &[
     "FUNCTION_BLOCK B EVENT_INPUT I; END_EVENT EVENT_OUTPUT O; END_EVENT END_FUNCTION_BLOCK",
     "SUBAPPLICATION S EVENT_INPUT I; END_EVENT FBS F:B; END_FBS EVENT_CONNECTIONS I TO F.I; END_CONNECTIONS END_SUBAPPLICATION",

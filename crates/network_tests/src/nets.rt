@@ -8,7 +8,7 @@ use std::alloc::{AllocError, Global};
 use std::test::Fail;
 
 // Rows on one unit are on all that it rests on, its net, and the units whose nets are found then. Those of more words are on the net of a
-// unit where that of another is kept.
+// unit if the net of another is kept.
 pub const NETS: &str = r#"
 == a border with two inner targets
 FUNCTION_BLOCK B EVENT_INPUT I; END_EVENT EVENT_OUTPUT O; END_EVENT END_FUNCTION_BLOCK

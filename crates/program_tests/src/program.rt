@@ -57,9 +57,10 @@ pub(crate) fn line_of(alloc: Global, settings: &Settings<'_>) -> Result<String, 
         Settings::Host(it) => {
             let (port, workers, sessions) = (it.port, it.workers, it.sessions);
             let (units, history) = (it.limits.units(), it.limits.history());
-            let (secret, idle, connections) = (it.secret, it.idle, it.connections);
+            let (secret, is_open) = (it.secret, it.is_open);
+            let (idle, connections) = (it.idle, it.connections);
             format!(in alloc;
-                "host {port} {workers} {sessions} {units} {history} {secret:?} {idle} {connections}"
+                "host {port} {workers} {sessions} {units} {history} {secret:?} {is_open} {idle} {connections}"
             )
         }
     }
@@ -118,10 +119,12 @@ fn words_give_servers(rt: HostRuntime) -> Result<(), Fail> {
 }
 
 // Words that ask for a server that stays: the same, the secret, the minutes, and the connections.
-const HOSTED: &str = r#"host --port 7 => host 7 2 32 1024 100000 None 0 1000000000
-host --port 0 --sessions 1 --workers 1 --units 1 --history 1 --secret s --idle 0 --connections 1 => host 0 1 1 1 1 Some("s") 0 1
-host --connections=1000000000 --idle=10080 --secret=a/b --history=10000000 --units=16384 --workers=16 --sessions=255 --port=65535 => host 65535 16 255 16384 10000000 Some("a/b") 10080 1000000000
-host --port 6149 --sessions 3 --workers 5 --units 17 --history 19 --idle 23 --connections 29 => host 6149 5 3 17 19 None 23 29"#;
+const HOSTED: &str = r#"host --port 7 => host 7 2 32 16384 100000 None false 60 1000000000
+host --port 0 --sessions 1 --workers 1 --units 1 --history 1 --secret s --idle 0 --connections 1 => host 0 1 1 1 1 Some("s") false 0 1
+host --connections=1000000000 --idle=10080 --secret=a/b --history=10000000 --units=16384 --workers=16 --sessions=255 --port=65535 => host 65535 16 255 16384 10000000 Some("a/b") false 10080 1000000000
+host --port 6149 --sessions 3 --workers 5 --units 17 --history 19 --idle 23 --connections 29 => host 6149 5 3 17 19 None false 23 29
+host --port 6149 --open --sessions 3 => host 6149 2 3 16384 100000 None true 60 1000000000
+host --open --port 6149 --secret s => host 6149 2 32 16384 100000 Some("s") true 60 1000000000"#;
 
 #[test]
 fn words_give_hosts(rt: HostRuntime) -> Result<(), Fail> {
@@ -129,7 +132,7 @@ fn words_give_hosts(rt: HostRuntime) -> Result<(), Fail> {
 }
 
 // Words that ask for nothing that the program does, or for help.
-const REFUSED: &[&str; 44] = &[
+const REFUSED: &[&str; 48] = &[
     "",
     "scripts",
     "--help",
@@ -167,6 +170,10 @@ const REFUSED: &[&str; 44] = &[
     "host --port 0 --history 0",
     "host --port 0 --history 10000001",
     "host --port 0 --secret",
+    "host --port 0 --open=1",
+    "host --port 0 --open 1",
+    "host --port 0 --open --open",
+    "serve --port 0 --open",
     "host --port 0 --idle",
     "host --port 0 --idle 10081",
     "host --port 0 --idle -1",

@@ -1,7 +1,7 @@
 //! Texts that are broken, and the places where they are. These were found by another reader, one that follows all spellings at once.
-use crate::told::{lines_of, row_in};
 use fb_library::parse::{Body, ReadFault, Source};
 use fb_text::Name;
+use refusing::{lines_of, row_in};
 use std::alloc::Global;
 use std::process::Abort;
 use std::test::Fail;
@@ -29,12 +29,12 @@ FUNCTION_BLOCK A EVENT_INPUT => 28..28
 FUNCTION_BLOCK A EVENT_INPUT E F; END_EVENT END_FUNCTION_BLOCK => 31..32
 // a comment that is never closed
 FUNCTION_BLOCK A (* x => 17..21
-// the end, behind blanks and comments
+// the end, after blanks and comments
 FUNCTION_BLOCK A // x => 21..21
  => 0..0
 // a reserved word is no name, in any case
 FUNCTION_BLOCK With END_FUNCTION_BLOCK => 15..19
-// what stands behind a whole unit
+// what follows a whole unit
 FUNCTION_BLOCK A END_FUNCTION_BLOCK ; => 36..37
 // no section of such a unit
 ADAPTER A VAR X:INT; END_VAR END_ADAPTER => 10..13
@@ -43,15 +43,15 @@ SUBAPPLICATION A EC_STATES END_STATES END_SUBAPPLICATION => 17..26
 SYSTEM A FBS END_FBS END_SYSTEM => 9..12
 // the words of structures are reserved, too
 FUNCTION_BLOCK V VAR Type:INT; END_VAR END_FUNCTION_BLOCK => 21..25
-// one semicolon at most behind the fields
+// one semicolon at most after the fields
 TYPE S : STRUCT END_STRUCT;; END_TYPE => 27..28
 // no type but a structure
 TYPE S : INT; END_TYPE => 9..12
 // no sections
 TYPE S : STRUCT VAR F:INT; END_VAR END_STRUCT END_TYPE => 16..19
-// no length behind OF
+// no length after OF
 TYPE S : STRUCT F:ARRAY[0..1] OF U[3]; END_STRUCT END_TYPE => 34..35
-// one list of subscripts to a name, and a name behind each point
+// one list of subscripts to a name, and a name after each point
 FUNCTION_BLOCK V VAR X:INT; END_VAR ALGORITHM P IN ST: X[0][1] := 1; END_ALGORITHM END_FUNCTION_BLOCK => 59..60
 FUNCTION_BLOCK V VAR X:S; END_VAR ALGORITHM P IN ST: X.1 := 1; END_ALGORITHM END_FUNCTION_BLOCK => 55..56
 "#;

@@ -1,15 +1,16 @@
 //! The parts of declarations.
 use crate::readers::read;
-use crate::told::{lines_of, row_in, words};
+use crate::told::words;
 use fb_grammar::Tokens;
 use fb_structured_text::expression;
 use fb_text::Span;
 use fb_tree::{Expr, LiteralForm};
+use refusing::{lines_of, row_in};
 use std::alloc::{AllocError, Global};
 use std::process::Abort;
 use std::test::Fail;
 
-// Under the name of a part, texts with what is read at their front, and how many tokens are after it, or from the one that does not
+// Under the name of a part, texts with what is read at their start, and how many tokens are after it, or from the one that does not
 // continue.
 const PARTS: &str = r#"
 == names with commas
@@ -139,7 +140,7 @@ fn parts_of_texts(rt: HostRuntime) -> Result<(), Fail> {
     Ok(())
 }
 
-// What stands so many times before a middle, the middle, and what stands as often behind it; whether it is read, and what is left.
+// A part that is repeated before a middle, the middle, and a part that is repeated as often after it; whether it is read, and what is left.
 static NESTED: [(&str, &str, &str, &str, usize, bool, usize); 11] = [
     // the last level is 64
     ("expression", "(", "1", ")", 64, true, 0),
@@ -230,7 +231,7 @@ fn variable_told(alloc: Global, text: &str) -> Result<String, Fail> {
     }
 }
 
-// Variables, with their names and where they stand.
+// Variables, with their names and their places.
 const VARIABLES: &str = r#"
  ab [1] => AB 1..3 (1) in 1..7
  p . x => P 1..2 (0) in 1..6 with X 5..6 (0)

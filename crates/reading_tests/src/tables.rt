@@ -7,7 +7,7 @@ use std::process::Abort;
 use std::sync::Arc;
 use std::test::Fail;
 
-// So many that the table has several rooms of shelves.
+// Enough that the table has several shelves of entries.
 const MANY: usize = 2_000;
 
 fn name(alloc: Global, number: usize) -> Result<Name, Fail> {

@@ -7,7 +7,6 @@ use fb_tree::{
     Structure, System, Transition, TypeDeclaration, Variables,
 };
 use std::alloc::{AllocError, Global};
-use std::test::Fail;
 
 /// What can be written in words.
 pub trait Tell {
@@ -74,22 +73,6 @@ impl Tell for NameUse {
         told.push_str(self.name.as_str())?;
         self.span.tell(told)
     }
-}
-
-/// The lines of a table, each row in one of them: `TEXT => EXPECTED`, where what is expected may also be in the line after.
-pub fn lines_of(alloc: Global, table: &str) -> Result<String, Fail> {
-    if !table.contains("=> ") {
-        return Err(Fail::from("a table without rows"));
-    }
-    Ok(table.replace(alloc, "\n    => ", " => ")?)
-}
-
-/// The row in a line of a table, if it is no remark.
-pub fn row_in(line: &str) -> Option<(&str, &str)> {
-    if line.is_empty() || line.starts_with("// ") {
-        return None;
-    }
-    Some(line.split_once(" => ").unwrap_or((line, "")))
 }
 
 /// Adds names, each with a blank after it.

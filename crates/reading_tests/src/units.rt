@@ -1,8 +1,9 @@
 //! The texts of units that are whole.
-use crate::told::{lines_of, names_told, row_in, say_names, words};
+use crate::told::{names_told, say_names, words};
 use fb_library::parse::{Body, Source};
 use fb_text::Name;
 use fb_tree::{Mentions, mentions, mentions_of};
+use refusing::{lines_of, row_in};
 use std::alloc::Global;
 use std::process::Abort;
 use std::test::Fail;
@@ -30,7 +31,7 @@ L: FUNCTION_BLOCK L EC_TRANSITIONS A TO B := 1; END_TRANSITIONS EC_STATES A; END
     => L is block L 15..16; A; B; A TO B := 1; B TO A := E; a chart
 Z: SYSTEM Z MAPPINGS A ON D.R; END_MAPPINGS DEVICE D:T END_DEVICE APPLICATION A END_APPLICATION MAPPINGS B ON D.S; END_MAPPINGS DEVICE E:T END_DEVICE APPLICATION B END_APPLICATION END_SYSTEM
     => Z is system Z 7..8; APPLICATION A; APPLICATION B; DEVICE D:T; DEVICE E:T; A ON D.R; B ON D.S
-// structures, with fields and without; their words stand in any case
+// structures, with fields and without; their words may be in any case
 S: TYPE S : STRUCT F:INT; A:ARRAY[0..3] OF INT; G:U; Q:ARRAY[0..1] OF U; END_STRUCT; END_TYPE
     => S is structure S 5..6; Field F:Plain INT 18..21; Field A:Array INT 25..43; Field G:Plain U 47..48; Field Q:Array U 52..68
 U: TYPE U : STRUCT H:BOOL; N:STRING[8]; END_STRUCT END_TYPE => U is structure U 5..6; Field H:Plain BOOL 18..22; Field N:Sized STRING 26..35

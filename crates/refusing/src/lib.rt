@@ -1,13 +1,16 @@
-//! Calls of which each allocation is refused in turn.
+//! What crates of tests share: calls of which each allocation is refused in turn, and tables of rows.
 //!
 //! `tools/refuse` preloads the library that refuses them: there a request of a size that nobody can have shows which allocation of this
 //! thread is refused. In a run without it none is refused, and each call is made once, with ample memory.
 #![tactic(auto)]
 
+mod tables;
+
 use std::alloc::Global;
 use std::io;
 use std::io::Print;
 use std::test::Fail;
+pub use tables::{lines_of, row_in};
 
 /// A size that nobody can have.
 const NOBODY: usize = 1 << 62;

@@ -142,7 +142,7 @@ const board = {
       this.answers.clear();
     }
     const added = news.units.map(([unit]) => unit).filter((unit) => !this.units.has(unit));
-    for (const [unit, kind, revision, state, faults, file, plan] of news.units) this.units.set(unit, { unit, kind, revision, state, faults, file, plan });
+    for (const [unit, name, kind, revision, state, faults, file, plan] of news.units) this.units.set(unit, { unit, name, kind, revision, state, faults, file, plan });
     this.addNames(added);
     for (const [kind, unit, serial, current] of news.answers) this.answers.set(`${kind} ${unit}`, { serial, current });
     for (const it of news.changes) this.changes.set(it.serial, it);
@@ -163,6 +163,9 @@ const board = {
     }
   },
 };
+
+/** The name of a unit as its text declares it. */
+const nameOf = (unit) => board.units.get(unit)?.name ?? unit;
 
 /** What the server says where it does not let this page in. */
 async function refusalOf(path) {
@@ -211,7 +214,7 @@ const groupsOf = {
 function fillGroup(row, { group, units, faults, isOpen }) {
   row.classList.add("group");
   row.title = group;
-  row.append(make("span", { "aria-hidden": "true" }, isOpen ? "▾" : "▸"), make("span", { class: "name" }, make("bdi", {}, group)),
+  row.append(make("span", { "aria-hidden": "true" }, isOpen ? "▾" : "▸"), make("span", { class: "name" }, make("bdi", {}, by === "system" ? nameOf(group) : group)),
     make("span", { class: "unseen" }, `, ${isOpen ? "open" : "closed"}, ${faults ? `${counted(faults, "fault")}, ` : ""}`),
     faults ? make("span", { class: "badge number", "aria-hidden": "true" }, faults.toLocaleString("en")) : "",
     make("span", { class: "kind number" }, counted(units.length, "unit")));
@@ -267,7 +270,7 @@ function fillUnit(row, unit) {
   row.classList.toggle("gone", unit.state === "absent");
   const words = unit.state === "faulty" ? counted(unit.faults, "fault") : STATES[unit.state];
   row.append(
-    make("span", { class: `dot ${unit.state}`, "aria-hidden": "true" }), make("span", { class: "name" }, unit.unit),
+    make("span", { class: `dot ${unit.state}`, "aria-hidden": "true" }), make("span", { class: "name" }, unit.name),
     make("span", { class: "unseen" }, `, ${words}, `),
     unit.faults ? make("span", { class: "badge number", "aria-hidden": "true" }, unit.faults.toLocaleString("en")) : "",
     make("span", { class: `kind ${unit.state}` }, gone || unit.state === "noplan" ? STATES[unit.state] : KINDS[unit.kind] ?? ""),
@@ -346,9 +349,9 @@ function showNews(news) {
 }
 
 function tellFaults(units) {
-  const settled = units.filter(([, , , state]) => state === "faulty" || state === "noplan" || state === "fine");
+  const settled = units.filter(([, , , , state]) => state === "faulty" || state === "noplan" || state === "fine");
   if (settled.length > 3) speaker.say(`${counted(settled.length, "unit")} checked, ${counted(count().faults, "fault")} in all`);
-  else for (const [unit, , , state, faults] of settled) speaker.say(`${unit}: ${faults ? counted(faults, "fault") : state === "noplan" ? "no plan" : "no faults"}`);
+  else for (const [, name, , , state, faults] of settled) speaker.say(`${name}: ${faults ? counted(faults, "fault") : state === "noplan" ? "no plan" : "no faults"}`);
 }
 
 // Changes
@@ -372,13 +375,13 @@ const authorOf = ({ author, commit }) => `${author || "another session"}${commit
 
 const spokenWords = (change) => {
   const { steps } = change, who = authorOf(change);
-  return !steps.length ? who : steps.length === 1 ? `${steps[0][0]} ${stepWords(steps[0])}, ${who}` : `${counted(steps.length, "unit")} changed, ${who}`;
+  return !steps.length ? who : steps.length === 1 ? `${nameOf(steps[0][0])} ${stepWords(steps[0])}, ${who}` : `${counted(steps.length, "unit")} changed, ${who}`;
 };
 
 /** A change: its units, when and by whom, and the faults that came and went with it. */
 function changeItem(change) {
   const { steps, serial, time, count } = change;
-  const units = steps.slice(0, STEPS).map((step) => make("p", { class: "step" }, link(step[0], () => go(step[0], "text")), ` ${stepWords(step)}`));
+  const units = steps.slice(0, STEPS).map((step) => make("p", { class: "step" }, link(nameOf(step[0]), () => go(step[0], "text")), ` ${stepWords(step)}`));
   if (steps.length > STEPS) units.push(make("p", { class: "step" }, `and ${counted(steps.length - STEPS, "unit")} more`));
   if (count > 1) units.at(-1).append(`, ${count.toLocaleString("en")} changes`);
   return make("li", { "data-serial": serial, "data-time": time }, ...units, make("p", { class: "number" }, `${clock(time)}, ${authorOf(change)}`),
@@ -390,7 +393,7 @@ function faultLines(sort, faults, count) {
   const sign = sort === "came" ? "+" : "−";
   const line = (...words) => make("p", { class: `fault ${sort}` }, make("span", { class: "unseen" }, sort), make("span", { "aria-hidden": "true" }, sign), " ", ...words);
   const lines = faults.slice(0, NOTES).map(([unit, code, words]) =>
-    line(link(unit, () => go(unit, code === "NO_PLAN" ? "plan" : "text")), " ", code === "NO_PLAN" ? "no plan" : make("span", { class: "mono" }, code), words ? ` ${words}` : ""));
+    line(link(nameOf(unit), () => go(unit, code === "NO_PLAN" ? "plan" : "text")), " ", code === "NO_PLAN" ? "no plan" : make("span", { class: "mono" }, code), words ? ` ${words}` : ""));
   if (count > lines.length) lines.push(line(`${counted(count - lines.length, "fault")} more`));
   return lines;
 }
@@ -425,7 +428,7 @@ function follow() {
 
 function showHead() {
   const row = board.units.get(shown.unit);
-  $("unit").textContent = shown.unit || "The plant";
+  $("unit").textContent = row?.name ?? (shown.unit || "The plant");
   $("facts").textContent = row ? [KINDS[row.kind], row.revision ? `revision ${row.revision}` : "", row.file].filter(Boolean).join(" · ") : "";
   $("unit-state").hidden = !row;
   if (row) {
@@ -477,12 +480,12 @@ const table = (heads, rows) => make("table", {}, make("thead", {}, make("tr", {}
 function systemTable(systems) {
   const plan = (it) => it.plan ? link(it.plan, () => go(it.unit, "plan")) : "pending";
   const faults = (it) => it.state === "pending" ? "pending" : it.faults ? link(counted(it.faults, "fault"), () => go(it.unit, "text")) : "none";
-  const rows = systems.slice(0, PLANT_ROWS).map((it) => [link(it.unit, () => go(it.unit, "network")), faults(it), plan(it)]);
+  const rows = systems.slice(0, PLANT_ROWS).map((it) => [link(it.name, () => go(it.unit, "network")), faults(it), plan(it)]);
   return table([`System (${systems.length.toLocaleString("en")})`, "Faults of its text", "Plan"], rows);
 }
 
 function faultyTable(faulty) {
-  const rows = faulty.slice(0, PLANT_ROWS).map((it) => [link(it.unit, () => go(it.unit, "text")), KINDS[it.kind] ?? "", counted(it.faults, "fault")]);
+  const rows = faulty.slice(0, PLANT_ROWS).map((it) => [link(it.name, () => go(it.unit, "text")), KINDS[it.kind] ?? "", counted(it.faults, "fault")]);
   return table([`Unit (${faulty.length.toLocaleString("en")})`, "Kind", "Faults"], rows);
 }
 
@@ -565,7 +568,7 @@ function showLine(number) {
 // Why there is no network or plan
 
 function whyNot(view) {
-  const names = (units) => units.flatMap((it, at) => [at ? ", " : "", link(it, () => go(it, "text"))]);
+  const names = (units) => units.flatMap((it, at) => [at ? ", " : "", link(nameOf(it), () => go(it, "text"))]);
   switch (view.state) {
     case "pending": return ["It is being computed…"];
     case "none": return [whyNone()];
@@ -585,9 +588,9 @@ function whyNot(view) {
 function whyNone() {
   const row = board.units.get(shown.unit), what = shown.tab === "plan" ? "plan" : "network";
   if (!row?.revision) return `There is no unit ${shown.unit}.`;
-  if (!Object.hasOwn(KINDS, row.kind)) return `The text of ${shown.unit} is not known, or declares nothing that has a ${what}.`;
+  if (!Object.hasOwn(KINDS, row.kind)) return `The text of ${row.name} is not known, or declares nothing that has a ${what}.`;
   if (!HAS[what].includes(row.kind)) return `${/^[aeiou]/.test(KINDS[row.kind]) ? "An" : "A"} ${KINDS[row.kind]} has no ${what}.`;
-  return `The text of ${shown.unit} has a SYNTAX fault, so it has no ${what}.`;
+  return `The text of ${row.name} has a SYNTAX fault, so it has no ${what}.`;
 }
 
 const misplacedWords = ([reason, path]) => reason === "UNMAPPED" ? `no mapping gives ${path} a resource` : `a mapping is of ${path}, which is not there`;
@@ -601,7 +604,9 @@ async function refreshNetwork(still) {
   if (!isNewer("net", "deploy")) return note(renewing() ? "A change may reach it; it is being computed again." : network?.note ?? "");
   const { clientWidth, clientHeight } = $("panel");
   const open = network?.unit === shown.unit && network.canvas.isConnected ? network.wanted() : "auto";
-  const view = await ask("/net", { name: shown.unit, aspect: (Math.max(1, clientWidth - 240) / Math.max(1, clientHeight - 60)).toFixed(2), open });
+  // (in a narrow window the list of blocks is below the picture, which has half of the height)
+  const aspect = matchMedia("(max-width: 820px)").matches ? clientWidth / (innerHeight / 2) : Math.max(1, clientWidth - 240) / Math.max(1, clientHeight - 60);
+  const view = await ask("/net", { name: shown.unit, aspect: aspect.toFixed(2), open });
   if (!still()) return;
   shown.serial = view.serial;
   if (view.state !== "flat") return say(...whyNot(view));
@@ -1080,15 +1085,20 @@ class NetworkView {
     context.textAlign = "left";
     for (const [, name, x, y, w] of this.view.folds) this.paintFoldName(`⊟ ${name}`, x, y, w);
     context.font = `600 ${size}px ${this.colour("sans")}`;
-    for (const [name, x, y] of this.view.frames) {
-      const width = context.measureText(name).width + 12, left = this.nameLeft(x, width);
+    for (const frame of this.view.frames) {
+      const [name, x, y] = frame, width = Math.min(context.measureText(name).width + 12, this.roomOfName(frame)), left = this.nameLeft(x, width);
       context.fillStyle = this.colour("raised");
       context.globalAlpha = 0.85;
       context.fillRect(left, y + 24 - size * 0.8, width, size * 1.6);
       context.globalAlpha = 1;
       context.fillStyle = this.colour("dim");
-      context.fillText(name, left + 6, y + 24);
+      context.fillText(name, left + 6, y + 24, width - 12);
     }
+  }
+
+  /** How wide the name of a frame may be: up to the next frame beside it. */
+  roomOfName([, x, y, , h]) {
+    return Math.min(...this.view.frames.filter(([, left, top, , height]) => left > x && top < y + h && y < top + height).map(([, left]) => left - x));
   }
 
   /** The name of an open subapplication, as large as there is room in its frame. */

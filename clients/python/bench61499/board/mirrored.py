@@ -26,7 +26,7 @@ class MirroredWatch:
         self._next_told = 0.0
 
     def run(self) -> None:
-        """Keeps the board up to date for ever."""
+        """Keeps the board up to date forever."""
         threading.Thread(target=self._follow_wishes, name="wishes", daemon=True).start()
         self._mirror.run()
 

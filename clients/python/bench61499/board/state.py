@@ -88,11 +88,17 @@ class Row:
             return "pending"
         return "noplan" if isinstance(self.deploy, (Faulty, Stopped)) else "fine"
 
+    @property
+    def name(self) -> str:
+        """The name of the unit as its text declares it, if that is known and declares this unit."""
+        declared = self.source.name if self.source else ""
+        return declared if declared.upper() == self.unit else self.unit
+
     @cached_property
     def told(self) -> list[Any]:
-        """As a JSON value for a list: its name, kind, revision, state, number of faults, file, and plan in words."""
-        file = str(self.source.file) if self.source and self.source.file else ""
-        return [self.unit, self.source.kind if self.source else "", self.revision, self.state, len(self.faults or ()), file, plan_in_words(self.deploy)]
+        """As a JSON value for a list: the unit, its name as declared, kind, revision, state, number of faults, file, and plan in words."""
+        file, kind = (str(self.source.file or ""), self.source.kind) if self.source else ("", "")
+        return [self.unit, self.name, kind, self.revision, self.state, len(self.faults or ()), file, plan_in_words(self.deploy)]
 
     @cached_property
     def wrong(self) -> Counter[Wrong] | None:

@@ -89,7 +89,7 @@ def _fail(board: Board, watch: SharedWatch, error: WorkbenchError, say: Callable
 
 
 def _connect(watch: SharedWatch, connect: Callable[[], Session]) -> None:
-    """Goes on with another session if there was none. If that can't be had, the next step fails."""
+    """Continues with another session if there was none. If that can't be had, the next step fails."""
     if watch.is_lost():
         try:
             watch.resume(connect())
@@ -321,7 +321,7 @@ class SharedWatch(Asking):
         self._error = error
 
     def resume(self, session: Session) -> None:
-        """Goes on with another session: all is asked for again."""
+        """Continues with another session: all is asked for again."""
         self.session, self._error = session, None
         self._next_question, self._pause = 0.0, SHORT_PAUSE
         changed = self.session.changed(self._known)

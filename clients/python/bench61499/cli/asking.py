@@ -10,7 +10,9 @@ from bench61499 import Key, NoSuchKey, Session
 from bench61499.cli.command import Progress, open_session, tell
 from bench61499.cli.comparing import compare, in_words, last_common, only_there, replace
 from bench61499.cli.looking import ONLY_ASKED
+from bench61499.language.as_declared import AsDeclared, shown_units
 from bench61499.language.mentions import Mentions
+from bench61499.language.texts import Texts as Known
 from bench61499.language.units import Misuse, Unit, commit_units, read_units
 from bench61499.snapshot import Snapshot
 
@@ -34,6 +36,14 @@ class Asked:
 
     def is_there(self, unit: str) -> bool:
         return bool(self._session.revision(unit))
+
+    def shown(self, *units: str) -> str:
+        """Units as they are declared."""
+        return ", ".join(shown_units(self.texts, units))
+
+    def names(self, unit: str) -> AsDeclared:
+        """The names of one unit."""
+        return AsDeclared(Known.of(self.texts), unit)
 
     def is_broken(self, unit: str) -> bool:
         """Whether the workbench has the unit, and its text spells none."""

@@ -4,7 +4,6 @@ from __future__ import annotations
 import argparse
 import codecs
 import os
-import stat
 import sys
 import time
 from collections.abc import Callable, Iterator
@@ -15,17 +14,16 @@ from itertools import islice
 from pathlib import Path
 from typing import TextIO, TypeVar
 
-from bench61499 import ConnectionEnded, NoAnswer, NoSeat, NotLetIn, NoWorkbench, Session, find_program, pauses
+from bench61499 import ConnectionEnded, NoAnswer, NoSeat, NoSecret, NotLetIn, Session, find_program, pauses
 from bench61499.language.names import shown
 from bench61499.language.units import Misuse
+from bench61499.secret import UnfitSecret, read_secret
 from bench61499.session import PATIENCE
 
 SEAT_PATIENCE = 60.0
 """Seconds in which a program that runs once waits for a session that ends."""
 NOT_LET_IN = 2
 """Times that it tries again after it was not let in."""
-LONGEST_SECRET = 8_192
-"""Characters of a secret that are read, at most: a host reads no longer first line."""
 AGAIN = 3
 """Times that it connects again after a connection has ended."""
 Result = TypeVar("Result")
@@ -52,7 +50,7 @@ def _add_connect(reader: argparse._ActionsContainer, required: bool = False) -> 
 
 def _add_secret(reader: argparse.ArgumentParser) -> None:
     secret = os.environ.get("BENCH61499_SECRET_FILE")
-    reader.add_argument("--secret", default=secret, metavar="FILE", help="with --connect: the file whose first line a host requires (default: BENCH61499_SECRET_FILE)")
+    reader.add_argument("--secret", default=secret, metavar="FILE", help="with --connect: the file whose first line is the secret of the host (default: BENCH61499_SECRET_FILE, else that of your own host)")
 
 
 def add_patience(reader: argparse.ArgumentParser) -> None:
@@ -106,7 +104,7 @@ def open_once(options: argparse.Namespace) -> Session:
     if not options.connect:
         return Session.script(options.program or find_program())
     host, port = options.connect
-    session = Session.connect(host, port, secret=read_secret(options.secret))
+    session = Session.connect(host, port, secret=_named_secret(options.secret))
     session.patience = getattr(options, "patience", PATIENCE)
     return session
 
@@ -152,21 +150,12 @@ def persistently(options: argparse.Namespace, act: Callable[[], Result]) -> Resu
     return act()
 
 
-def read_secret(file: str | None) -> str | None:
-    """The first line of a file. Raises `NoWorkbench` if it has none, or if other users of the machine can read the file."""
-    if not file:
-        return None
+def _named_secret(file: str | None) -> str | None:
+    """The secret in a file that was named. Raises `NoSecret`."""
     try:
-        with open(file, encoding="utf-8", newline="") as lines:
-            mode = os.fstat(lines.fileno()).st_mode
-            secret = lines.readline(LONGEST_SECRET).rstrip("\n")
-    except (OSError, UnicodeDecodeError) as error:
-        raise NoWorkbench(f"the secret can't be read from {file}: {getattr(error, 'strerror', None) or 'it is not UTF-8'}") from error
-    if not secret:
-        raise NoWorkbench(f"the first line of {file} is empty, so it has no secret")
-    if stat.S_ISREG(mode) and mode & stat.S_IROTH:
-        raise NoWorkbench(f"other users of this machine can read the secret in {file}; chmod 600 keeps it from them")
-    return secret
+        return read_secret(file) if file else None
+    except UnfitSecret as error:
+        raise NoSecret(str(error)) from error
 
 
 def program(main: Callable[[], int]) -> Callable[[], int]:

@@ -13,9 +13,11 @@ from bench61499 import (
 from bench61499.cli.asking import Asked, Texts, asking
 from bench61499.cli.command import fail, program, read_with_units, tell
 from bench61499.cli.version import add_version
+from bench61499.language.as_declared import AsDeclared, shown_units
 from bench61499.language.explain import KIND_NAMES
 from bench61499.language.network import Box, End, Network, Port, Tag, Wire, homes
 from bench61499.language.plans import why_blocked
+from bench61499.language.texts import Texts as Known
 from bench61499.language.tokens import declared_kind
 from bench61499.language.units import Misuse
 
@@ -80,9 +82,9 @@ def ask(options: argparse.Namespace) -> tuple[Texts, Flat, Deploy | None]:
 def why_no_key(asked: Asked, unit: str) -> str:
     kind = declared_kind(asked.texts.get(unit, ""))
     if kind in WITHOUT_NETWORK:
-        return f"{unit} is {KIND_NAMES[kind]}; only subapplications and systems have networks"
+        return f"{asked.shown(unit)} is {KIND_NAMES[kind]}; only subapplications and systems have networks"
     if asked.is_broken(unit):
-        return f"{unit} has no network, as its text has a SYNTAX fault; check shows it"
+        return f"{asked.shown(unit)} has no network, as its text has a SYNTAX fault; check shows it"
     return f"the workbench has no subapplication or system {unit}"
 
 
@@ -90,11 +92,12 @@ def why_no_net(asked: Asked, unit: str, net: Net) -> str:
     match net:
         case Blocked(units):
             absent = [it for it in units if not asked.is_there(it)]
-            return f"{unit} has no network: {why_blocked(absent, [it for it in units if it not in absent])}"
+            faulty = shown_units(asked.texts, (it for it in units if it not in absent))
+            return f"{asked.shown(unit)} has no network: {why_blocked(absent, faulty)}"
         case Recursive(units):
-            return f"{unit} has no network: these types contain themselves: {', '.join(units)}"
+            return f"{asked.shown(unit)} has no network: these types contain themselves: {asked.shown(*units)}"
         case TooLarge():
-            return f"{unit} has no network: it has more than 4,096 instances"
+            return f"{asked.shown(unit)} has no network: it has more than 4,096 instances"
     raise AssertionError(net)
 
 
@@ -112,7 +115,7 @@ class Picture:
 
     def __init__(self, unit: str, texts: Texts, net: Flat, deploy: Deploy | None):
         self._unit = unit
-        self._network = Network(unit, texts, net)
+        self._network, self._names = Network(unit, texts, net), AsDeclared(Known.of(texts), unit)
         self._plan = deploy if isinstance(deploy, Plan) else None
         self._faulty = deploy if isinstance(deploy, Faulty) else None
         self._cuts = frozenset(self._plan.cuts) if self._plan else frozenset()
@@ -130,18 +133,19 @@ class Picture:
 
     def _title(self) -> str:
         if not self._faulty:
-            return f"<<B>{self._unit}</B>>"
+            return f"<<B>{self._names.type(self._unit)}</B>>"
         unmapped = sum(it.reason == "UNMAPPED" for it in self._faulty.misplaced)
         wrong = len(self._faulty.misplaced) - unmapped
         blocks = counted(unmapped, "block is not mapped", "blocks are not mapped")
         mappings = counted(wrong, "mapping names no block", "mappings name no block")
-        return f"<<B>{self._unit}</B><BR/>not deployed: {blocks}, {mappings}>"
+        return f"<<B>{self._names.type(self._unit)}</B><BR/>not deployed: {blocks}, {mappings}>"
 
     def _wire(self, wire: Wire) -> str:
         source, destination = wire.source, wire.destination
         style = {"color": f'"{COLOURS[wire.link.sort]}"'}
         if wire.inner:
-            style |= {"label": f'"{wire.inner}"', "fontcolor": style["color"]}
+            place = wire.link.source if wire.source.inner else wire.link.destination
+            style |= {"label": f'"{self._names.place(wire.link.sort, place).rpartition(".")[2]}"', "fontcolor": style["color"]}
         if wire.link in self._cuts:
             style["style"] = "dashed"
         if wire.is_backward:
@@ -154,15 +158,24 @@ class Picture:
         boxes, placed = self._network.boxes, homes(self._plan)
         for resource in self._plan.resources if self._plan else ():
             yield f'  subgraph "cluster {resource.name}" {{'
-            yield f'    label="{resource.name}"; style="rounded,filled"; color="#b0bec5"; fillcolor="#f5f7f8";'
-            yield from (f"    {node(boxes[path])}" for path, home in placed.items() if home == resource.name)
+            yield f'    label="{self._names.resource(resource.name)}"; style="rounded,filled"; color="#b0bec5"; fillcolor="#f5f7f8";'
+            yield from (f"    {self._node(boxes[path])}" for path, home in placed.items() if home == resource.name)
             yield "  }"
-        yield from (f"  {node(box)}" for path, box in boxes.items() if path not in placed)
+        yield from (f"  {self._node(box)}" for path, box in boxes.items() if path not in placed)
+
+    def _node(self, box: Box) -> str:
+        """A block as a table: its path and type, then its ports."""
+        names, block = self._names, box.block
+        head = f'<TR><TD COLSPAN="2" BGCOLOR="#eceff1"><B>{names.path(block.path)}</B><BR/><I>{names.type(block.type)}</I></TD></TR>'
+        sides = ((cell("LEFT", left, names, block.type), cell("RIGHT", right, names, block.type)) for sort in COLOURS for left, right in zip_longest(of(box.left, sort), of(box.right, sort)))
+        rows = "".join(f"<TR>{left}{right}</TR>" for left, right in sides)
+        table = f'<TABLE BORDER="1" CELLBORDER="0" CELLSPACING="0" CELLPADDING="4" BGCOLOR="white">{head}{rows}</TABLE>'
+        return f'"{block.path}" [label=<{table}>];'
 
     def _borders(self) -> Iterator[str]:
         """The own ports of a subapplication: on the left what comes in, on the right what goes out."""
         for left, rank in ((True, "source"), (False, "sink")):
-            side = [border_node(tag.border) for tag in self._network.tags if tag.left == left]
+            side = [border_node(tag.border, self._names) for tag in self._network.tags if tag.left == left]
             if side:
                 yield f"  {{ rank={rank}; {' '.join(dict.fromkeys(side))} }}"
         yield from map(self._border_edge, self._network.tags)
@@ -188,31 +201,20 @@ def edge(source: str, destination: str, style: dict[str, str]) -> str:
     return f"  {source} -> {destination} [{', '.join(f'{name}={value}' for name, value in style.items())}];"
 
 
-def node(box: Box) -> str:
-    """A block as a table: its path and type, then its ports."""
-    head = f'<TR><TD COLSPAN="2" BGCOLOR="#eceff1"><B>{box.block.path}</B><BR/><I>{box.block.type}</I></TD></TR>'
-    rows = "".join(port_row(left, right) for sort in COLOURS for left, right in zip_longest(of(box.left, sort), of(box.right, sort)))
-    table = f'<TABLE BORDER="1" CELLBORDER="0" CELLSPACING="0" CELLPADDING="4" BGCOLOR="white">{head}{rows}</TABLE>'
-    return f'"{box.block.path}" [label=<{table}>];'
-
-
 def of(side: list[Port], sort: str) -> list[Port]:
     return [port for port in side if port.sort == sort]
 
 
-def port_row(left: Port | None, right: Port | None) -> str:
-    return f"<TR>{cell('LEFT', left)}{cell('RIGHT', right)}</TR>"
-
-
-def cell(side: str, port: Port | None) -> str:
+def cell(side: str, port: Port | None, names: AsDeclared, type_: str) -> str:
+    """A port of a block of a type."""
     if not port:
         return "<TD></TD>"
-    shown = port.name
+    shown = names.port_of(type_, port.sort, port.name)
     if port.sort == "adapter":
         shown = f"<B>&raquo; {shown}</B>" if side == "LEFT" else f"<B>{shown} &raquo;</B>"
     return f'<TD PORT="{port.sort} {port.name}" ALIGN="{side}"><FONT COLOR="{COLOURS[port.sort]}">{shown}</FONT></TD>'
 
 
-def border_node(border: Border) -> str:
+def border_node(border: Border, names: AsDeclared) -> str:
     colour = COLOURS[border.sort]
-    return f'"{border.sort} {border.port}" [shape=cds, label="{border.port}", color="{colour}", fontcolor="{colour}"];'
+    return f'"{border.sort} {border.port}" [shape=cds, label="{names.own_port(border.sort, border.port)}", color="{colour}", fontcolor="{colour}"];'

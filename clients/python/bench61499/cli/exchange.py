@@ -147,7 +147,7 @@ def boot_of(options: argparse.Namespace) -> Boot:
         is_trusted = asked.is_trusted
     if not spellings or not is_trusted and deploy != plan_of_files(options):  # The file's text has a SYNTAX fault, or is another one.
         raise another_text(options.unit)
-    return Boot(plan_in(options.unit, deploy), spellings, starts, nets, options.applications)
+    return Boot(plan_in(asked, options.unit, deploy), spellings, starts, nets, options.applications)
 
 
 def plan_of_files(options: argparse.Namespace) -> Deploy:

@@ -77,7 +77,9 @@ class Found:
     warnings: list[Finding] = field(default_factory=list)
     """What this client warns of, which is no fault by the language: types of values that are nowhere, and names in algorithms that the workbench skips."""
     skipped: list[Finding] = field(default_factory=list)
-    """The algorithms that the workbench does not read."""
+    """The algorithms and guards that the workbench does not read."""
+    guards: int = 0
+    """How many of these are guards."""
     answers: Answers | None = None
     judged: Judged = Judged.FILES
     differences: Sequence[Difference] = ()
@@ -126,7 +128,8 @@ def find(units: Sequence[Unit], faults: Mapping[str, tuple[Fault, ...]], answers
             found.reasons += (_reason(by_name[it.unit], it) for it in told if it.unit in by_name)
     found.warnings = list(_warnings(units, names, texts, broken.__contains__))
     found.notes += _spellings(units, texts)
-    found.skipped = [_skipped(unit, it) for unit in units for it in skipped(unit.text)]
+    heads = [(unit, it) for unit in units for it in skipped(unit.text)]
+    found.skipped, found.guards = [_skipped(*it) for it in heads], sum(it.is_guard for _, it in heads)
     return _of_originals(found)
 
 

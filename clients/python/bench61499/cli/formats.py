@@ -67,7 +67,9 @@ def summary(found: Found) -> Iterator[str]:
     units = counted(len(found.units) - len(found.unchecked), "unit")
     faulty = len({it.unit.name for it in found.faults})
     missing = f"; {counted(len(found.reasons), 'reason')} why networks or plans are missing" if found.reasons else ""
-    unread = f"; {counted(len(found.skipped), 'algorithm')} {'is' if len(found.skipped) == 1 else 'are'} not checked" if found.skipped else ""
+    kinds = ((len(found.skipped) - found.guards, "algorithm"), (found.guards, "guard"))
+    skipped = " and ".join(counted(number, kind) for number, kind in kinds if number)
+    unread = f"; {skipped} {'is' if len(found.skipped) == 1 else 'are'} not checked" if skipped else ""
     yield (f"{counted(len(found.faults), 'fault')} in {faulty:,} of {units}" if found.faults else f"{units}, no faults") + unread + missing
     if found.unchecked:
         yield f"{counted(len(found.unchecked), 'unit')} not checked"

@@ -14,7 +14,6 @@ from bench61499.language.as_declared import AsDeclared
 from bench61499.language.explain import KIND_NAMES
 from bench61499.language.names import shown
 from bench61499.language.plans import why_misplaced
-from bench61499.language.texts import Texts
 from bench61499.language.tokens import declared_kind
 from bench61499.language.units import Misuse
 
@@ -31,8 +30,8 @@ class NoPlan(Exception):
 def main() -> int:
     options = read_options()
     try:
-        deploy, names = ask(options)
-        plan = of_resource(options.resource, options.unit, plan_in(options.unit, deploy))
+        plan, names = ask(options)
+        plan = of_resource(options.resource, options.unit, plan)
         if not plan.resources and not options.json:
             tell(f"plan: {options.unit} has no resources, and so there is nothing to tell them")
         for line in [as_json(options.unit, plan)] if options.json else lines(plan, names):
@@ -64,11 +63,10 @@ def read_options() -> argparse.Namespace:
     return read_with_units(reader)
 
 
-def ask(options: argparse.Namespace) -> tuple[Deploy, AsDeclared]:
-    """What is known of the system's plan, and its names. Raises `NoPlan` where the unit is no system."""
+def ask(options: argparse.Namespace) -> tuple[Plan, AsDeclared]:
+    """The system's plan, and its names. Raises `NoPlan`."""
     with asking(options, options.replace) as asked:
-        deploy = deploy_of(asked, options.unit)
-        return deploy, AsDeclared(Texts.of(asked.texts), options.unit)
+        return plan_in(asked, options.unit, deploy_of(asked, options.unit)), asked.names(options.unit)
 
 
 def deploy_of(asked: Asked, unit: str) -> Deploy:
@@ -81,10 +79,10 @@ def deploy_of(asked: Asked, unit: str) -> Deploy:
 
 def why_no_key(asked: Asked, unit: str) -> str:
     if asked.is_broken(unit):
-        return f"{unit} has no plan, as its text has a SYNTAX fault; check shows it"
+        return f"{asked.shown(unit)} has no plan, as its text has a SYNTAX fault; check shows it"
     kind = declared_kind(asked.texts.get(unit, ""))
     what = KIND_NAMES[kind] if kind and kind != "SYSTEM" else what_is(asked, unit)
-    return f"{unit} is {what}; only systems have plans" if what else f"the workbench has no system {unit}"
+    return f"{asked.shown(unit)} is {what}; only systems have plans" if what else f"the workbench has no system {unit}"
 
 
 def what_is(asked: Asked, unit: str) -> str:
@@ -94,25 +92,27 @@ def what_is(asked: Asked, unit: str) -> str:
     return KIND_NAMES["SUBAPPLICATION"] if asked.values([("net", unit)]) else "a block, an adapter or a structure"
 
 
-def plan_in(unit: str, deploy: Deploy) -> Plan:
+def plan_in(asked: Asked, unit: str, deploy: Deploy) -> Plan:
+    """The plan. Raises `NoPlan` if there is none."""
     match deploy:
         case Plan():
             return deploy
         case Stopped(net):
-            why, *reasons = why_stopped(net)
-            raise NoPlan(f"{unit} has no plan: {why}", reasons)
+            why, *reasons = why_stopped(asked, net)
+            raise NoPlan(f"{asked.shown(unit)} has no plan: {why}", reasons)
         case Faulty(misplaced):
-            reasons = [{"code": it.reason, "path": it.path, "explanation": why_misplaced(it)} for it in misplaced]
-            raise NoPlan("\n".join([f"{unit} has no plan:", *[f"  {it['explanation']}" for it in reasons]]), reasons)
+            names = asked.names(unit)
+            reasons = [{"code": it.reason, "path": it.path, "explanation": why_misplaced(it, names)} for it in misplaced]
+            raise NoPlan("\n".join([f"{asked.shown(unit)} has no plan:", *[f"  {it['explanation']}" for it in reasons]]), reasons)
 
 
-def why_stopped(net: Blocked | Recursive | TooLarge) -> tuple[str, dict[str, object]]:
+def why_stopped(asked: Asked, net: Blocked | Recursive | TooLarge) -> tuple[str, dict[str, object]]:
     """The reason in words, and in its JSON."""
     match net:
         case Blocked(units):
-            code, why = "BLOCKED", f"these units are absent or have faults: {', '.join(units)}"
+            code, why = "BLOCKED", f"these units are absent or have faults: {asked.shown(*units)}"
         case Recursive(units):
-            code, why = "RECURSIVE", f"these types contain themselves: {', '.join(units)}"
+            code, why = "RECURSIVE", f"these types contain themselves: {asked.shown(*units)}"
         case TooLarge():
             code, why, units = "TOO_LARGE", "it has more than 4,096 instances", ()
     return why, {"code": code, **({"units": list(units)} if units else {}), "explanation": why}

@@ -15,6 +15,7 @@ from bench61499.cli.command import add_server, fail, open_once, open_reading, pr
 from bench61499.cli.version import add_version
 from bench61499.language.units import Misuse
 from bench61499.sync.deciding import Step
+from bench61499.sync.editors import opened_in
 from bench61499.sync.keeper import FEW, Keeper, Ways
 from bench61499.sync.report import Report
 from bench61499.sync.saved import Saved
@@ -62,8 +63,9 @@ def sync(options: argparse.Namespace) -> int:
     ways = Ways(both or options.pull, both or options.push, options.dry_run, options.remove)
     report = Report(options.dry_run)
     with opened(options.folder, options.dry_run) as (saved, store), Team(lambda: open_once(options)) as team:
-        keeper = Keeper(saved, store, team, ways, report)
-        if options.pull or options.push or options.dry_run:
+        is_once = options.pull or options.push or options.dry_run
+        keeper = Keeper(saved, store, team, ways, report, dict if is_once else lambda: opened_in(store.folder))
+        if is_once:
             keep_once(keeper, team)
             return int(report.has_troubles() or bool(store.conflicts) or report.counts[Step.CONFLICT] > 0)
         keep(keeper, saved, store, team, report, "{}:{}".format(*options.connect))
@@ -109,7 +111,7 @@ def keep_once(keeper: Keeper, team: Team) -> None:
 
 
 def keep(keeper: Keeper, saved: Saved, store: Store, team: Team, report: Report, address: str) -> None:
-    """Goes on as long as the folder is there."""
+    """Runs as long as the folder is there."""
     is_begun = False
     keeper.look(at_once=True)
     next_look = time.monotonic() + LOOK

@@ -11,6 +11,7 @@ from bench61499.cli.asking import Asked, asking
 from bench61499.cli.command import fail, program, read_with_units, tell
 from bench61499.cli.draw import NoPicture, why_no_key, why_no_net
 from bench61499.cli.version import add_version
+from bench61499.language.as_declared import AsDeclared
 from bench61499.language.texts import Texts
 from bench61499.language.units import Misuse
 from bench61499.language.wording import counted
@@ -24,10 +25,10 @@ def main() -> int:
     options = read_options()
     try:
         with asking(options, options.replace) as asked:
-            tracing = traced(asked, options.unit)
+            tracing, names = traced(asked, options.unit), asked.names(options.unit)
             end = tracing.end(options.end)
         ways = ways_of(tracing, end, options.steps)
-        for line in [as_json(options.unit, tracing, end, ways)] if options.json else lines(tracing, end, ways):
+        for line in [as_json(options.unit, tracing, end, ways)] if options.json else lines(tracing, end, ways, names):
             print(line)
     except (NoPicture, NoSuchEnd) as error:
         tell(f"trace: {error}")
@@ -41,7 +42,8 @@ def read_options() -> argparse.Namespace:
     reader = argparse.ArgumentParser(
         prog="trace",
         description="Prints what feeds an input, and what feeds that, or where an output leads, through all subapplications and adapters: each block with its resource, and the "
-        "links, those between resources as cut. The network and the plan are those of the workbench; a block counts as fed by all its inputs.",
+        "links, those between resources as cut, with names as they are declared. The network and the plan are those of the workbench; a block counts as fed by all its inputs. In "
+        "JSON names are in capitals, as the workbench tells them.",
         epilog="The status is 0 if it has printed the ways, even if there is nothing on them; 1 if the unit has no network or no such end; 2 if it could not ask, or with --connect "
         "and --files the network rests on another text than that of a file.",
     )
@@ -70,7 +72,7 @@ def traced(asked: Asked, unit: str) -> Tracing:
     if not isinstance(net, Flat):
         raise NoPicture(why_no_net(asked, unit, net))
     if isinstance(deploy, (Faulty, Stopped)):
-        tell(f"trace: {unit} has no plan, so resources and cuts are not known")
+        tell(f"trace: {asked.shown(unit)} has no plan, so resources and cuts are not known")
 
     def net_of(inner: str) -> Net | None:
         key: Key = "net", inner
@@ -87,27 +89,30 @@ def ways_of(tracing: Tracing, end: End, steps: int) -> dict[str, Way]:
     return ways | ({FORTH: tracing.forth(end, steps)} if end.out or both else {})
 
 
-def lines(tracing: Tracing, end: End, ways: dict[str, Way]) -> Iterator[str]:
-    if not end.block and (inner := [place for _, place in (*end.into, *end.out) if place != end.path]):
-        yield f"{end.path} stands for {', '.join(dict.fromkeys(inner))}"
+def lines(tracing: Tracing, end: End, ways: dict[str, Way], names: AsDeclared) -> Iterator[str]:
+    """The ways, with names as they are declared."""
+    if not end.block and (inner := [names.place(sort, place) for sort, place in (*end.into, *end.out) if place != end.path]):
+        yield f"{names.end(end.path)} stands for {', '.join(dict.fromkeys(inner))}"
     for verb, way in ways.items():
-        yield f"{named(tracing, end)} {verb}{'' if way.steps else ' nothing'}{f'; its parameter is {end.constant}' if end.constant else ''}"
-        yield from (line for step in way.steps for line in step_lines(step))
+        yield f"{named(tracing, end, names)} {verb}{'' if way.steps else ' nothing'}{f'; its parameter is {end.constant}' if end.constant else ''}"
+        yield from (line for step in way.steps for line in step_lines(step, names))
         yield from summary(way) if way.steps else ()
 
 
-def named(tracing: Tracing, end: End) -> str:
-    return f"{end.path}{f' of {tracing.type(end.block)}' if end.block and end.path != end.block else ''}{on(tracing.resource(end.block))}"
+def named(tracing: Tracing, end: End, names: AsDeclared) -> str:
+    of = f" of {names.type(tracing.type(end.block))}" if end.block and end.path != end.block else ""
+    return f"{names.end(end.path)}{of}{on(tracing.resource(end.block), names)}"
 
 
-def on(resource: str) -> str:
-    return f" on {resource}" if resource else ""
+def on(resource: str, names: AsDeclared) -> str:
+    return f" on {names.resource(resource)}" if resource else ""
 
 
-def step_lines(step: Step) -> Iterator[str]:
-    what = f" : {step.type}{on(step.resource)}" if step.type else ", an own port"
-    yield f"{step.number:>3} {step.path}{what}{', as above' if step.is_again else ''}"
-    yield from (f"      {it.link.sort} {it.link.source} -> {it.link.destination}{', cut' if it.is_cut else ''}" for it in step.hops)
+def step_lines(step: Step, names: AsDeclared) -> Iterator[str]:
+    what = f" : {names.type(step.type)}{on(step.resource, names)}" if step.type else ", an own port"
+    yield f"{step.number:>3} {names.end(step.path)}{what}{', as above' if step.is_again else ''}"
+    for link, cut in ((names.link(it.link), ", cut" if it.is_cut else "") for it in step.hops):
+        yield f"      {link.sort} {link.source} -> {link.destination}{cut}"
 
 
 def summary(way: Way) -> Iterator[str]:

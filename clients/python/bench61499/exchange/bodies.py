@@ -9,6 +9,7 @@ from bench61499.exchange import names
 from bench61499.exchange.algorithms import unwrapped
 from bench61499.exchange.conditions import NO_CONDITION, Chart, condition
 from bench61499.exchange.exchanged import FULL, Algorithm, Transition, Unit, comment
+from bench61499.exchange.guards import guards_of, with_guards
 from bench61499.exchange.outgoing import MODERN, Outgoing
 from bench61499.exchange.report import REPLACED, cut
 from bench61499.exchange.xmltext import Tag
@@ -35,7 +36,7 @@ def condition_words(out: Outgoing, unit: Unit, way: Transition) -> tuple[str, st
     """A condition as a file has it, and its comment: the words that it is in the place of, its own form if that is read as the same one, and with its guard
     in brackets if not."""
     chart = chart_of(unit, out.types)
-    return _replaced(way, chart) or (_own_words(out, way, chart), way.comment)
+    return _replaced(way, chart) or (with_guards(_own_words(out, way, chart), guards_of(unit)), way.comment)
 
 
 def _replaced(way: Transition, chart: Chart) -> tuple[str, str] | None:

@@ -17,11 +17,12 @@ _NO_GUARD = "its guard is none of this language"
 
 
 class Condition(NamedTuple):
-    """A condition of a text; why it is in the place of another one, if it is; and the comments that were in it."""
+    """A condition of a text; why it is in the place of another one, if it is; the comments that were in it; and the guard if that alone could not be read."""
 
     text: str
     why: str = ""
     remarks: tuple[str, ...] = ()
+    guard: str = ""
 
 
 @dataclass(frozen=True)
@@ -128,10 +129,10 @@ class _Reading:
         return depths
 
     def _guarded(self, begin: int, end: int) -> Condition:
-        event = self._words(0, begin - 1)
+        event, guard = self._words(0, begin - 1), self._words(begin, end)
         if spell(self._tokens[begin:end], Cursor.expression):
-            return Condition(f"{event} [{self._words(begin, end)}]".lstrip())
-        return Condition(f"{event} [{self._chart.not_read}]".lstrip(), _NO_GUARD)
+            return Condition(f"{event} [{guard}]".lstrip())
+        return Condition(f"{event} [{self._chart.not_read}]".lstrip(), _NO_GUARD, guard=guard)
 
     def _joined(self) -> Condition:
         """An event and a guard with an operator between them, or an expression."""
@@ -142,7 +143,7 @@ class _Reading:
         if begins_with_event and not has_or:
             if spell(self._tokens[self._size + 1 :], Cursor.expression):
                 return Condition(self._words(0))
-            return Condition(f"{self._words(0, self._size)} [{self._chart.not_read}]", _NO_GUARD)
+            return Condition(f"{self._words(0, self._size)} [{self._chart.not_read}]", _NO_GUARD, guard=self._words(self._size + 1))
         if not spell(self._tokens, Cursor.expression):
             return Condition(NO_CONDITION, _NO_CONDITION)
         events = self._events()

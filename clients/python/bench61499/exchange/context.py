@@ -19,7 +19,14 @@ ELEMENTS = frozenset(
     SubrangeVarDeclaration System VarDeclaration VersionInfo With""".split()
 )
 """The elements of IEC 61499-2 and of 4diac."""
+KINDS = {"FBType": "FUNCTION_BLOCK", "AdapterType": "ADAPTER", "SubAppType": "SUBAPPLICATION", "System": "SYSTEM", "DataType": "TYPE"}
+"""The kinds of units by the roots of files."""
 _LINE_END = re.compile(r"\r\n|\r|\n")
+
+
+def has_unit(root: Element) -> bool:
+    """Whether a file becomes a unit: of data types structures alone do, of functions, devices and the like none."""
+    return root.name in KINDS and (root.name != "DataType" or bool(root.named("StructuredType"))) and not (root.name == "FBType" and root.named("FunctionBody"))
 
 
 @dataclass
@@ -38,17 +45,17 @@ class Library:
 
 class Context:
     """A file that is imported. `records` are the names of the present unit that can't be told from their names in its text, `generics` the types that are
-    made for structures."""
+    made for structures; `types` are those of variables that are kept as names, with their sizes and the types of the file."""
 
     def __init__(self, report: Report, library: Library):
         self.report, self.library = report, library
         self.records: dict[str, str] = {}
-        self.kept, self.packages, self._paths = Kept(), dict[str, str](), dict[int, str]()
+        self.kept, self.packages, self.types, self._paths = Kept(), dict[str, str](), dict[str, tuple[str, str]](), dict[int, str]()
         self.generics: dict[str, tuple[str, str, Element, Element]] = {}
 
     def begin(self, root: Element) -> None:
         """Begins the unit of an element."""
-        self.kept, self.packages, self._paths = Kept(), {}, paths(root)
+        self.kept, self.packages, self.types, self._paths = Kept(), {}, {}, paths(root)
 
     def left_out(self, at: Element, words: str) -> None:
         """Tells what is lost."""
@@ -87,11 +94,14 @@ class Context:
         return self.name(at, at.get("Name"))
 
     def last_name(self, at: Element, name: str) -> str:
-        """The name of a type or a constant, without its package. A package that export could not write again is told."""
+        """The name of a type or a constant, without its package. That is kept if no unit has it, and told if no file has it."""
         package, last = names.without_package(name)
         new = self.name(at, last)
-        if package and self.library.packages.get(new.upper()) != package:
+        root = self.library.roots.get(new.upper())
+        is_of_file = self.library.packages.get(new.upper()) == package
+        if package and not is_of_file:
             self.left_to_comments(at, f"the package {cut(package)} of {cut(last)}")
+        if package and not (is_of_file and root and has_unit(root)):
             self.packages[new] = package
         return new
 

@@ -191,9 +191,9 @@ class Unit:
 
 _BLANKS = " \t"
 ELEMENT_RECORDS = ("Identification", "VersionInfo", "CompilerInfo", "Compiler", "Import", "ASN1Tag")
-RECORDS = (*ELEMENT_RECORDS, "Name", "MadeFrom", "Given", "Generic", "InOut", "Internal", "Constant", "Simple", "Package", "Elsewhere", "File", "Missing")
-"""What comments behind a unit keep: these elements, the spelling of a renamed name, what a copy of a type was made from, the structure of a generic one, in-out variables, internal blocks and constants, that a block was
-a simple one, the package of a type that no file has, a data type or a name in an algorithm that the project has and no unit, the file in its project, and how many things of it are not kept."""
+RECORDS = (*ELEMENT_RECORDS, "Name", "MadeFrom", "Given", "Generic", "InOut", "Internal", "Constant", "Guard", "Simple", "Untyped", "Type", "Package", "Elsewhere", "File", "Missing")
+"""What comments behind a unit keep: these elements, the spelling of a renamed name, what a copy of a type was made from, the structure of a generic one, in-out variables, internal blocks, constants and guards, that a block was
+a simple one and a subapplication had no type, a type of variables with its size, the package of a type that no file has, a data type or a name in an algorithm that the project has and no unit, the file in its project, and how many things of it are not kept."""
 _ESCAPES = {"&": "&amp;", '"': "&quot;", "<": "&lt;", "\n": "&#10;", "\r": "&#13;", "\t": "&#9;"}
 _RECORD = re.compile(rf"""({'|'.join(RECORDS)}):((?: [^\s=]+="[^"]*")+)""")
 _ATTRIBUTE = re.compile(r''' ([^\s=]+)="([^"]*)"''')

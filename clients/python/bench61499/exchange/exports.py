@@ -9,10 +9,12 @@ from bench61499.exchange.folders import Target, Unwritable
 from bench61499.exchange.from_text import NoUnit, Read, read_unit
 from bench61499.exchange.generic import generic_type
 from bench61499.exchange.lowering import Raising, made_from
+from bench61499.exchange.others import Other, content_of, place_in, without_unit
 from bench61499.exchange.outgoing import FBDK, Outgoing, recorded_names
 from bench61499.exchange.names import restored
-from bench61499.exchange.report import LEFT_OUT, RENAMED, Report, Run, counted, cut
+from bench61499.exchange.report import LEFT_OUT, NOTE, RENAMED, Report, Run, counted, cut
 from bench61499.exchange.to_xml import NotWritten, file_name, tree
+from bench61499.exchange.untyped import untyped
 from bench61499.exchange.xmlfile import ENDINGS, Unreadable, find_xml, read_xml
 from bench61499.exchange.xmltext import Tag, document
 from bench61499.language.spelling import Differing, differing, respelled
@@ -91,32 +93,42 @@ class Export(Run):
         self._raising = Raising(texts.types)
         self._types = self._raising.units
         self._spelled = texts.spelled
+        names = untyped(self._types) if tool != FBDK else ()
+        self._inner = {it.unit.name.upper(): Report(str(file)) for file, it in texts.read.items() if it.unit.name.upper() in names}
         self.reports = [self._put(file, it) for file, it in texts.read.items() if self._is_written(it.unit)]
+        self._units = len(self.reports)
+        for it in without_unit(paths, target.folder, self.fail) if texts.read else ():
+            self._copy(it, place_in(it.file, paths))
 
     def _is_written(self, unit: Unit) -> bool:
-        """Whether a unit has a file; types that import made have none."""
+        """Whether a unit is written, with a file or within another one; types that import made are not."""
         return unit.name.upper() in self._types and not generic_type(unit)
 
     def _put(self, file: Path, read: Read) -> Report:
-        unit, report = self._types[read.unit.name.upper()], Report(str(file))
+        name = read.unit.name.upper()
+        unit, report = self._types[name], self._inner.get(name) or Report(str(file))
         if unit.name in self._raising.changed:
             report.tell(LEFT_OUT, unit.line, f"that {unit.name} was {made_from(unit)} with parameters: it is no longer, and is a type of its own")
-        try:
-            root = tree(unit, Outgoing(unit, self._types, self._tool, report))
-        except NotWritten as error:
-            self.fail(f"{file}:{unit.line}: {unit.name} {error}; it is not written")
-            return report
         for it in self._spelled.get(file, ()):
             report.tell(RENAMED, unit.line, f"{it.used} to {it.declared}, as it is declared")
         for line, words in read.left_out:
             report.tell(LEFT_OUT, line, cut(words))
+        if name not in self._inner:
+            self._put_file(file, unit, report)
+        self._missing += sum(int(it["things"]) for it in recorded(unit, "Missing") if it.get("things", "").isdecimal())
+        return report
+
+    def _put_file(self, file: Path, unit: Unit, report: Report) -> None:
+        try:
+            root = tree(unit, Outgoing(unit, self._types, self._tool, report, self._inner))
+        except NotWritten as error:
+            self.fail(f"{file}:{unit.line}: {unit.name} {error}; it is not written")
+            return
         doctype = _DOCTYPE.format(root.name) if self._tool == FBDK else ""
         text, is_changed = document(root, unit.comments[:-1], doctype)
         if is_changed:
             report.tell(LEFT_OUT, unit.line, "characters that XML can't have; U+FFFD is in their place")
         self._write(file, self._place(unit, root), text)
-        self._missing += sum(int(it["things"]) for it in recorded(unit, "Missing") if it.get("things", "").isdecimal())
-        return report
 
     def _place(self, unit: Unit, root: Tag) -> str:
         """Where the file of a unit is written: over the one that has the type, else where it was in the project."""
@@ -135,12 +147,26 @@ class Export(Run):
             self.fail(str(error))
             del self._written[place.upper()]
 
+    def _copy(self, it: Other, place: str) -> None:
+        """Takes along a file without a unit. One that the project has stays: nobody changes it in texts."""
+        own = self._there.get((it.root, it.name)) or (place if (self._target.folder / place).exists() else "")
+        try:
+            content = content_of(it.file)
+            if not own:
+                self._target.copy(place, content)
+            elif content_of(self._target.folder / own) != content:
+                self.reports.append(Report(str(it.file)))
+                self.reports[-1].tell(NOTE, 1, f"{own} has another content, and stays as it is")
+            self._written[(own or place).upper()] = it.file
+        except (OSError, Unwritable) as error:
+            self.fail(str(error))
+
     @property
     def status(self) -> int:
         return max(super().status, int(self._missing > 0))
 
     def outcome(self) -> str:
-        return f"{counted(len(self.reports), 'unit')}, {counted(len(self._written), 'file')} in {self._target.folder}"
+        return f"{counted(self._units, 'unit')}, {counted(len(self._written), 'file')} in {self._target.folder}"
 
     def remark(self) -> str:
         return f"{counted(self._missing, 'thing')} of the imported project {'is' if self._missing == 1 else 'are'} not in them" if self._missing else ""

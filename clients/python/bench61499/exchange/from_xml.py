@@ -4,16 +4,17 @@ from __future__ import annotations
 from collections.abc import Iterator
 
 from bench61499.exchange import names
-from bench61499.exchange.context import Context
+from bench61499.exchange.context import KINDS, Context, has_unit
 from bench61499.exchange.exchanged import SUBAPPS, Network, Unit, record
 from bench61499.exchange.generic import Generic, unit_of
 from bench61499.exchange.inouts import inouts_of
 from bench61499.exchange.interfaces import RECORD_ELEMENTS, basic, interface, interface_clashes, records, service, variables
 from bench61499.exchange.networks import INTERFACES, NETWORKS, Networks, Systems
 from bench61499.exchange.report import NOTE, cut
+from bench61499.exchange.untyped import RECORD
+from bench61499.exchange.values import type_records
 from bench61499.exchange.xmlfile import Document, Element, Unreadable
 
-_KINDS = {"FBType": "FUNCTION_BLOCK", "AdapterType": "ADAPTER", "SubAppType": "SUBAPPLICATION", "System": "SYSTEM", "DataType": "TYPE"}
 _WITHOUT_UNIT = {
     "DeviceType": "device type",
     "ResourceType": "resource type",
@@ -26,6 +27,8 @@ _WITHOUT_UNIT = {
     "AttributeType": "attribute type",
 }
 """The roots of files that have no unit: the workbench looks none of these up."""
+_BY_ENDING = {".dev": "DeviceType", ".res": "ResourceType", ".seg": "SegmentType", ".fct": "FunctionType", ".gcf": "GlobalConstants", ".atp": "AttributeType"}
+"""What a file is whose root is not known: versions of 4diac differ in these."""
 _DATA = "InterfaceList SubAppInterfaceList Service"
 _CHILDREN = {
     "FUNCTION_BLOCK": f"{_DATA} BasicFB SimpleFB FBNetwork SubAppNetwork",
@@ -39,8 +42,16 @@ _CHILDREN = {
 def check_root(document: Document) -> None:
     """Raises `Unreadable` for a file that is no type or system."""
     root = document.root
-    if root.name not in _KINDS and root.name not in _WITHOUT_UNIT:
+    if root.name not in KINDS and not _without_unit(document):
         raise Unreadable(f"{document.file}:{root.line}: is no type or system of IEC 61499: its root is {cut(root.name)}")
+
+
+def _without_unit(document: Document) -> str:
+    """What a file is that has no unit; empty if it is none of these."""
+    root = document.root
+    name = "FunctionType" if root.name == "FBType" and root.named("FunctionBody") else root.name
+    ending = _BY_ENDING.get(document.file.suffix.lower(), "") if name not in KINDS else ""
+    return _WITHOUT_UNIT.get(name, "") or _WITHOUT_UNIT.get(ending, "")
 
 
 def units(document: Document, context: Context) -> list[Unit]:
@@ -57,14 +68,11 @@ class _Making:
 
     def made(self, document: Document) -> list[Unit]:
         root, context = document.root, self._context
-        kind = _KINDS.get(root.name)
-        if not kind:
-            context.part_left_out(root, f"the {_WITHOUT_UNIT[root.name]} {cut(root.get('Name'))}: the workbench looks none up")
+        if not has_unit(root):
+            what = _without_unit(document)
+            context.part_left_out(root, f"the {what} {cut(root.get('Name'))}: the workbench looks none up" if what else _data_type_without_unit(root))
             return []
-        if kind == "TYPE" and not root.named("StructuredType"):
-            context.part_left_out(root, _data_type_without_unit(root))
-            return []
-        made = [self._own_unit(kind, document), *self._other_units()]
+        made = [self._own_unit(KINDS[root.name], document), *self._other_units()]
         return [*made, *(unit_of(context.library, Generic(*it)) for it in context.generics.values())]
 
     def _own_unit(self, kind: str, document: Document) -> Unit:
@@ -84,6 +92,7 @@ class _Making:
     def _keep(self, unit: Unit) -> None:
         """Adds what comments keep of a unit that was read."""
         unit.records += [record("Package", {"type": name, "package": package}) for name, package in self._context.packages.items()]
+        unit.records += type_records(self._context.types)
         unit.records += self._context.kept.records()
 
     def _other_units(self) -> Iterator[Unit]:
@@ -96,7 +105,7 @@ class _Making:
             unit = Unit("SUBAPPLICATION", name, at.line, [context.comment_of(at.line, f"The subapplication {own} without a type.")])
             self._read(unit, at)
             self._keep(unit)
-            unit.records.append(record("Missing", {"things": "1"}))  # That it has no type.
+            unit.records.append(record(RECORD, {"name": own}))
             yield unit
 
     def _read(self, unit: Unit, root: Element) -> None:

@@ -8,6 +8,7 @@ from bench61499.exchange.context import Context, Library
 from bench61499.exchange.exchanged import Event, Unit, Variable, record
 from bench61499.exchange.interfaces import variables
 from bench61499.exchange.report import NOTE, Report, cut
+from bench61499.exchange.values import type_records
 from bench61499.exchange.xmlfile import Element
 from bench61499.exchange.xmltext import Tag
 
@@ -49,7 +50,7 @@ def unit_of(library: Library, it: Generic) -> Unit:
     made.events["EVENT_INPUT"] = [Event("REQ", withs=[each.name for each in made.variables["VAR_INPUT"]])]
     made.events["EVENT_OUTPUT"] = [Event("CNF", withs=[each.name for each in made.variables["VAR_OUTPUT"]])]
     attributes = {name: it.attribute.get(key) for name, key in (("attribute", "Name"), ("kind", "Type"), ("value", "Value"))}
-    made.records = [record(GENERIC, {"type": it.type, **attributes}), *(record("Name", {"text": text, "file": file}) for text, file in context.records.items())]
+    made.records = [record(GENERIC, {"type": it.type, **attributes}), *(record("Name", {"text": text, "file": file}) for text, file in context.records.items()), *type_records(context.types)]
     return made
 
 

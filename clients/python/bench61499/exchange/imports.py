@@ -7,13 +7,14 @@ from typing import NamedTuple
 
 from bench61499 import TEXT_LIMIT
 from bench61499.exchange import names
-from bench61499.exchange.context import Context, Library
+from bench61499.exchange.context import Context, Library, has_unit
 from bench61499.exchange.exchanged import FULL, Unit, record, written
 from bench61499.exchange.folders import Target, Unwritable
 from bench61499.exchange.from_text import read_or_none
 from bench61499.exchange.from_xml import check_root, units
 from bench61499.exchange.kept import is_kept, is_of_positions
 from bench61499.exchange.lowering import Lowering, made_from
+from bench61499.exchange.others import content_of, is_in, manifests, place_in
 from bench61499.exchange.report import LEFT_OUT, NOTE, Report, Run, counted
 from bench61499.exchange.to_xml import file_name
 from bench61499.exchange.widening import conversions
@@ -45,13 +46,17 @@ def lowered(made: list[Made]) -> list[Made]:
 
 
 class Project:
-    """The units of files of XML and of those in folders. `fail` is told what is not read."""
+    """The units of files of XML and of those in folders. `fail` is told what is not read. Of the folder that is written to nothing is read if it is within
+    one of them."""
 
-    def __init__(self, paths: list[Path], fail: Tell):
+    def __init__(self, paths: list[Path], fail: Tell, to: Path | None = None):
         self.has_failed, self._tell = False, fail
-        files = find_xml(paths, self._fail)
+        is_inner = to is not None and any(is_in(to, it) and not is_in(it, to) for it in paths)
+        files = [it for it in find_xml(paths, self._fail) if not (to and is_inner and is_in(it, to))]
         self._places = {file: place_in(file, paths) for file in files}
         documents = list(self._documents(files))
+        self.others = [(it.file, self._places[it.file]) for it in documents if not has_unit(it.root)]
+        self.others += [(it, place_in(it, paths)) for it in manifests(paths)]
         self.reports = [Report(str(it.file)) for it in documents]
         if not files and not self.has_failed:
             self._fail(f"{', '.join(map(str, paths))}: has no file of IEC 61499-2")
@@ -80,19 +85,13 @@ class Project:
         for document in documents:
             library.add(document.root)
         made: list[Made] = []
-        without = 0
         for document, report in zip(documents, self.reports):
             its = [Made(it, document.file, report) for it in units(document, Context(report, library))]
             if its:
                 self._record(its[0], document)
-            else:
-                without += report.missing
             made += its
-        if made and without:
-            of_project = next((it for it in made if it.unit.kind == "SYSTEM"), made[0])
-            of_project.unit.records.append(record("Missing", {"things": f"{without}"}))
         self._record_types(made, {names.spelled(it.root.get("Name")).upper() for it in documents if it.root.name == "DataType"} - {it.unit.name.upper() for it in made})
-        self._record_names(made, names_without_unit([it.root for it in documents]))
+        self._record_names(made, names_without_unit([it.root for it in documents if not has_unit(it.root)]))
         types = {it.unit.name.upper(): it.unit for it in reversed(made)}
         for it in made:
             for conversion in conversions(it.unit, types):
@@ -141,12 +140,14 @@ class Import(Run):
     def __init__(self, paths: list[Path], target: Target, tell: Tell):
         super().__init__(tell)
         self._target = target
-        self._written = 0
+        self._written = self._copied = 0
         self._owners: dict[str, tuple[Path, str]] = {}
-        project = Project(paths, self.fail)
+        project = Project(paths, self.fail, target.folder)
         self.reports = project.reports
         for it in project.made:
             self._put(it.file, it.unit.name, written_in_room(it))
+        for file, place in project.others if project.made else ():
+            self._copy(file, place)
 
     def _put(self, file: Path, name: str, text: str) -> None:
         """Writes the text of a unit, unless another file has given one."""
@@ -165,22 +166,25 @@ class Import(Run):
         except Unwritable as error:
             self.fail(str(error))
 
+    def _copy(self, file: Path, place: str) -> None:
+        """Puts a file without a unit beside the texts."""
+        try:
+            self._target.copy(place, content_of(file))
+            self._copied += 1
+        except (OSError, Unwritable) as error:
+            self.fail(str(error))
+
     def outcome(self) -> str:
-        return f"{counted(len(self.reports), 'file')}, {counted(self._written, 'unit')} in {self._target.folder}"
+        made = counted(self._written, "unit") + (f" and {counted(self._copied, 'file')} without one" if self._copied else "")
+        return f"{counted(len(self.reports), 'file')}, {made} in {self._target.folder}"
 
 
 def names_without_unit(roots: Iterable[Element]) -> frozenset[str]:
-    """The names of functions, of global constants and their lists, and of values of enumerations, in upper case."""
-    functions = {root.get("Name") for root in roots if root.name in ("FunctionType", "GlobalConstants")}
-    groups = [group for root in roots if root.name in ("GlobalConstants", "DataType") for group in root.children]
+    """Of files without a unit the names of functions, of global constants and their lists, and of values of enumerations, in upper case."""
+    functions = {root.get("Name") for root in roots if root.name != "DataType"}
+    groups = [group for root in roots for group in root.children]
     values = {it.get("Name") for group in groups if group.name in ("GlobalConstants", "EnumeratedType") for it in group.children}
     return frozenset(it.upper() for it in functions | values if it)
-
-
-def place_in(file: Path, paths: list[Path]) -> str:
-    """Where a file is in the folder that was named, or its name if it was named itself."""
-    inner = (file.relative_to(it) for it in paths if it != file and file.is_relative_to(it))
-    return next(inner, Path(file.name)).as_posix()
 
 
 def records_of(text: str) -> list[str]:

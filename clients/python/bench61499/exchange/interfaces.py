@@ -2,18 +2,18 @@
 from __future__ import annotations
 
 import re
-from collections.abc import Callable, Iterable, Iterator, Mapping
+from collections.abc import Callable, Container, Iterable, Iterator, Mapping
 from itertools import accumulate
 
-from bench61499.exchange import names
+from bench61499.exchange import guards, names
 from bench61499.exchange.algorithms import algorithm
 from bench61499.exchange.conditions import Chart, condition
 from bench61499.exchange.context import Context
-from bench61499.exchange.exchanged import Event, Instance, Parameter, Sequence, Service, State, Transition, Unit, Variable, record
+from bench61499.exchange.exchanged import FULL, Event, Instance, Parameter, Sequence, Service, State, Transition, Unit, Variable, record
 from bench61499.exchange.forms import bare_tokens
 from bench61499.exchange.inouts import GROUP, RECORD, output_of
 from bench61499.exchange.kept import POSITIONS
-from bench61499.exchange.report import NOTE, cut
+from bench61499.exchange.report import NOTE, REPLACED, UNCHECKED, Report, cut
 from bench61499.exchange.values import Typed, constant, variable
 from bench61499.exchange.xmlfile import Element
 
@@ -140,6 +140,19 @@ def parameters(context: Context, at: Element, is_wanted: Callable[[Element], boo
     return found
 
 
+def own_values(context: Context, at: Element, fed: Container[str]) -> Iterator[Parameter]:
+    """The values of inputs of a subapplication without a type, which are those of its one instance, where no parameter and no connection gives another."""
+    given = {it.get("Name") for it in at.named("Parameter") if it.get("Value")}
+    groups = [group for each in at.named("InterfaceList", "SubAppInterfaceList") for group in each.named("InputVars")]
+    for it in (each for group in groups for each in group.named("VarDeclaration") if each.get("InitialValue")):
+        quiet = Context(Report(""), context.library)
+        value = constant(quiet, it, it.get("InitialValue"), "", "" if it.get("ArraySize") else it.get("Type"))
+        if it.get("Name") not in given and f"{at.get('Name')}.{it.get('Name')}" not in fed and not quiet.report.counts()[REPLACED]:
+            context.records |= quiet.records
+            context.packages |= quiet.packages
+            yield Parameter(names.spelled(it.get("Name")), value)
+
+
 def input_types(context: Context, at: Element) -> dict[str, str]:
     """The types of the data inputs of an instance that are no arrays, by their names; of a subapplication without a type its own ones."""
     root = context.library.roots.get(names.spelled(names.without_package(at.get("Type"))[1]).upper()) if at.get("Type") else at
@@ -162,8 +175,8 @@ def basic(context: Context, unit: Unit, at: Element) -> None:
     unit.states = [_state(context, it) for chart in charts for it in chart.named("ECState")] if charts else None
     for chart in charts:
         context.known(chart, "", "ECState ECTransition")
-        unit.transitions += [_transition(context, it, known) for it in chart.named("ECTransition")]
-    unit.algorithms = [it for each in at.named("Algorithm") if (it := algorithm(context, at, each))]
+        unit.transitions += [_transition(context, unit, it, known) for it in chart.named("ECTransition")]
+    unit.algorithms[:0] = [it for each in at.named("Algorithm") if (it := algorithm(context, at, each))]
     if is_simple:
         _simple_chart(context, unit, at)
     states = [it for each in (at, *at.named("ECC")) for it in each.named("ECState")]
@@ -210,7 +223,7 @@ def _actions(context: Context, at: Element) -> Iterator[tuple[str, str]]:
             context.left_out(it, f"an action of the state {cut(at.get('Name'))} without an algorithm and an output")
 
 
-def _transition(context: Context, at: Element, chart: Chart) -> Transition:
+def _transition(context: Context, unit: Unit, at: Element, chart: Chart) -> Transition:
     context.known(at, "Source Destination Condition Comment")
     source, destination = (context.name(at, at.get(it)) for it in ("Source", "Destination"))
     words = at.get("Condition")
@@ -218,6 +231,10 @@ def _transition(context: Context, at: Element, chart: Chart) -> Transition:
     if not found.why:
         found = condition(words, chart, lambda it: context.name(at, it))
         return Transition(source, destination, found.text, context.comment(at, *(it.strip("/(* )") for it in found.remarks)), at.line)
+    own = condition(words, chart, str).guard
+    if own and not found.remarks and (name := guards.kept(unit, own, at.line)):
+        context.report.tell(UNCHECKED, at.line, f"the guard {cut(own)} is kept as the algorithm {name} IN {FULL}, which is not checked")
+        return Transition(source, destination, found.text.replace(chart.not_read, name), context.comment(at), at.line)
     what = f"the condition {cut(words)} by" if words else "a condition that is not there, by"
     context.replaced(at, f"{what} {cut(found.text)}" + (f": {found.why}" if words else ""))
     return Transition(source, destination, found.text, context.comment(at, words), at.line)

@@ -13,6 +13,7 @@ from bench61499.exchange.lowering import networks
 from bench61499.exchange.outgoing import recorded_names
 from bench61499.exchange.names import restored
 from bench61499.exchange.xmltext import escaped
+from bench61499.language.skipped import GUARD
 
 _QUOTED = re.compile(r'"[^"]*"')
 
@@ -33,7 +34,8 @@ def parts(unit: Unit) -> Iterator[Part]:
     yield from (Part(it.line, f"AdapterDeclaration {it.name}") for its in unit.adapters.values() for it in its)
     yield from (Part(it.line, f"ECState {it.name}") for it in unit.states or ())
     yield from (Part(it.line, f"ECTransition {it.source} -> {it.destination}") for it in unit.transitions)
-    yield from (Part(it.line, f"Algorithm {it.name}", it) for it in unit.algorithms)
+    ways = {it.condition.partition("[")[2].strip("]"): f"ECTransition {it.source} -> {it.destination}" for it in unit.transitions if GUARD in it.condition}
+    yield from (Part(it.line, ways.get(it.name, f"Algorithm {it.name}"), it) for it in unit.algorithms)
     yield from (Part(it.line, f"Application {it.name}") for it in unit.applications)
     for network in networks(unit):
         yield from (Part(it.line, f"{'SubApp' if it.section == 'SUBAPPS' else 'FB'} {it.name}") for it in network.instances)

@@ -72,7 +72,7 @@ class Lowering:
             self._tell(owner, it.line, REPLACED, f"the parameters of {it.name} by connections from {names.NO_SOURCE}: there are more than {_MOST:,} copies of types")
         else:
             name = self._copy(own, owner, it)
-            words = ", ".join(f"{each.name} := {each.value}" for each in it.parameters)
+            words = ", ".join(_as_in_files(owner, it.parameters))
             if not made_from(owner):
                 self._tell(owner, it.line, NOTE, f"{it.name} has the type {name}, which is {own.name} with {cut(words)}")
             it.type = name
@@ -96,9 +96,9 @@ class Lowering:
         """The copy of a type for parameters. What can't be said in it is told at an instance, `at`, of its owner."""
         made = deepcopy(own)
         made.name = name
-        made.comments.append(f"{own.name} with {', '.join(f'{it.name} := {it.value}' for it in parameters).replace('*)', '* )')}")
-        for it in parameters:
-            self._lead(made, own, it, lambda kind, words: self._tell(owner, at.line, kind, words), at.name)
+        made.comments.append(f"{own.name} with {', '.join(_as_in_files(owner, parameters)).replace('*)', '* )')}")
+        for it, shown in zip(parameters, _as_in_files(owner, parameters)):
+            self._lead(made, own, it, shown, lambda kind, words: self._tell(owner, at.line, kind, words), at.name)
         made.records = [
             *dict.fromkeys([*own.records, *_names_in(owner, parameters)]),
             record(MADE_FROM, {"type": own.name}),
@@ -106,9 +106,9 @@ class Lowering:
         ]
         return self.lowered(made)
 
-    def _lead(self, made: Unit, own: Unit, it: Parameter, tell: Callable[[str, str], object], instance: str) -> None:
-        """Gives a parameter to the instances that a port leads to."""
-        network, words = made.network or Network(), f"{instance}.{it.name} := {cut(it.value)}"
+    def _lead(self, made: Unit, own: Unit, it: Parameter, shown: str, tell: Callable[[str, str], object], instance: str) -> None:
+        """Gives a parameter, which lines show in other words, to the instances that a port leads to."""
+        network, words = made.network or Network(), f"{instance}.{cut(shown)}"
         connections = network.connections["DATA_CONNECTIONS"]
         led = list(dict.fromkeys(each.destination.upper() for each in connections if each.source.upper() == it.name.upper()))
         for end in led:
@@ -134,6 +134,12 @@ class Lowering:
 def _spelled_end(connections: list[Connection], end: str) -> str:
     """The port of an end, which is in upper case, as the connections spell it."""
     return next(it.destination.partition(".")[2] for it in connections if it.destination.upper() == end)
+
+
+def _as_in_files(owner: Unit, parameters: Iterable[Parameter]) -> list[str]:
+    """Parameters with the values that files have, which an owner may keep as names."""
+    files = {it.get("text", ""): it.get("file", "") for it in recorded(owner, "Name")}
+    return [f"{it.name} := {files.get(it.value, it.value)}" for it in parameters]
 
 
 def _names_in(owner: Unit, parameters: list[Parameter]) -> Iterator[str]:

@@ -9,7 +9,7 @@ from bench61499.exchange.context import Context
 from bench61499.exchange.exchanged import SUBAPPS, Application, Connection, Device, Instance, Mapping, Network, Unit
 from bench61499.exchange.generic import find_generic
 from bench61499.exchange.inouts import inouts_of, output_of
-from bench61499.exchange.interfaces import network_instances, parameters
+from bench61499.exchange.interfaces import network_instances, own_values, parameters
 from bench61499.exchange.report import NOTE, cut
 from bench61499.exchange.xmlfile import Element
 
@@ -34,7 +34,8 @@ class Networks:
         """Adds the parts of an element to a network. `ports` are the names in texts that its ends may begin with, beside its instances."""
         context = self._context
         context.known(at, "", f"FB SubApp Group {' '.join(_CONNECTIONS)}")
-        network.instances += self._instances(network, at)
+        fed = frozenset(it.get("Destination") for group in at.named("DataConnections") for it in group.named("Connection"))
+        network.instances += self._instances(network, at, fed)
         known = {names.spelled(name) for name, _ in network_instances(at) if name}
         for group in at.named(*_CONNECTIONS):
             context.known(group, "", "Connection")
@@ -57,7 +58,8 @@ class Networks:
             destination = output_of(destination)
         return Connection(source, destination, self._context.comment(at), at.line)
 
-    def _instances(self, network: Network, at: Element) -> Iterator[Instance]:
+    def _instances(self, network: Network, at: Element, fed: Container[str]) -> Iterator[Instance]:
+        """The instances of a network or a group; `fed` are the ends that data connections lead to."""
         for it in at.named("FB", "SubApp", "Group"):
             if it.name == "Group":
                 self._context.known(it, "Name Comment", "FB SubApp Group", keeps=False)
@@ -65,9 +67,9 @@ class Networks:
                 self._context.left_to_comments(it, f"the group {cut(it.get('Name'))}{remark}; what it holds is kept")
                 if at.name != "Group":
                     self._context.keep(at, _outline(it))
-                yield from self._instances(network, it)
+                yield from self._instances(network, it, fed)
             else:
-                yield self._block(it) if it.name == "FB" else self._subapplication(network, it)
+                yield self._block(it) if it.name == "FB" else self._subapplication(network, it, fed)
 
     def _block(self, at: Element) -> Instance:
         context, generic = self._context, find_generic(self._context, at)
@@ -84,7 +86,7 @@ class Networks:
             context.generics[type_] = generic
         return Instance("FBS", name, type_, parameters(context, at), context.comment(at), at.line)
 
-    def _subapplication(self, network: Network, at: Element) -> Instance:
+    def _subapplication(self, network: Network, at: Element, fed: Container[str]) -> Instance:
         context = self._context
         is_untyped = not at.get("Type") and bool(at.named(*INTERFACES, *NETWORKS))
         context.known(at, "Name Type Comment", " ".join(["Parameter", *(INTERFACES + NETWORKS if is_untyped else ())]))
@@ -97,6 +99,8 @@ class Networks:
         found = Instance(self._section, name, type_, comment=context.comment(at), line=at.line)
         interface = at if is_untyped else context.library.roots.get(type_.upper())
         found.parameters = parameters(context, at, lambda it: self._is_lowered(interface, it))
+        if is_untyped and self._section == SUBAPPS:
+            found.parameters += own_values(context, at, fed)
         for it in at.named("Parameter"):
             if self._is_lowered(interface, it):
                 continue

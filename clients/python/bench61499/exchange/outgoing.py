@@ -3,6 +3,7 @@ from __future__ import annotations
 
 import re
 from collections.abc import Mapping
+from types import MappingProxyType
 
 from bench61499.exchange import names
 from bench61499.exchange.exchanged import Unit, Variable, recorded
@@ -24,12 +25,19 @@ def recorded_names(unit: Unit) -> dict[str, str]:
 
 
 class Outgoing:
-    """A unit that is written as XML. `types` are all units by their names in upper case."""
+    """A unit that is written as XML. `types` are all units by their names in upper case, `inner` those that are written within others, with what is told of
+    them."""
 
-    def __init__(self, unit: Unit, types: Mapping[str, Unit], tool: str, report: Report):
-        self.unit, self.types, self.tool, self._report = unit, dict(types), tool, report
+    def __init__(self, unit: Unit, types: Mapping[str, Unit], tool: str, report: Report, inner: Mapping[str, Report] = MappingProxyType({})):
+        self.unit, self.types, self.tool, self._report, self._inner = unit, dict(types), tool, report, inner
         self._recorded = recorded_names(unit)
+        self._types = {it.get("text", ""): (it.get("type", ""), it.get("ranges", "")) for it in recorded(unit, "Type")}
         self._packages = {it.get("type", ""): it.get("package", "") for it in recorded(unit, "Package")}
+
+    def within(self, type_: str) -> Outgoing | None:
+        """The unit of a type that is written where its instance is; None if it has a file."""
+        report = self._inner.get(type_.upper())
+        return Outgoing(self.types[type_.upper()], self.types, self.tool, report, self._inner) if report else None
 
     def tell(self, kind: str, line: int, words: str) -> None:
         self._report.tell(kind, line, words)
@@ -77,6 +85,8 @@ class Outgoing:
         found = original(it.type, it.value)
         if found:
             return found
+        if it.type in self._types:
+            return Typed(*self._types[it.type], self.value(it.value, True, it.line))
         array = _ARRAY.fullmatch(it.type)
         value = self.value(it.value, array is not None, it.line)
         if not array:

@@ -8,7 +8,7 @@ from functools import lru_cache
 from typing import Protocol, TypeVar
 
 from bench61499.exchange import names
-from bench61499.exchange.exchanged import Instance, Network, Unit
+from bench61499.exchange.exchanged import Instance, Network, Unit, recorded
 from bench61499.exchange.generic import generic_type, runtime_type
 from bench61499.exchange.inouts import inputs_of
 from bench61499.exchange.outgoing import recorded_names
@@ -51,6 +51,7 @@ class Spellings:
     def __init__(self, system: Unit, types: Mapping[str, Unit], plain_types: bool):
         self.system, self.types, self._plain_types = system, types, plain_types
         self.instance = lru_cache(None)(self._instance)
+        self._packages = {it["type"].upper(): it["package"] for it in recorded(system, "Package") if {"type", "package"} <= it.keys()}
         self._recorded = lru_cache(None)(lambda name: recorded_names(types[name]))
 
     def name(self, owner: Unit, name: str) -> str:
@@ -62,11 +63,13 @@ class Spellings:
         """A type with its package; one that is not among the texts is that of a resource."""
         unit = self.types.get(name.upper())
         if not unit:
-            return self.name(self.system, name)
+            return self._packaged(self._packages.get(name.upper(), ""), self.name(self.system, name))
         if generic_type(unit):
             return runtime_type(unit)
-        package = "" if self._plain_types else unit.record("CompilerInfo", "packageName").strip()
-        return "::".join(filter(None, [package, self.name(unit, unit.name)]))
+        return self._packaged(unit.record("CompilerInfo", "packageName").strip(), self.name(unit, unit.name))
+
+    def _packaged(self, package: str, name: str) -> str:
+        return f"{package}::{name}" if package and not self._plain_types else name
 
     def value(self, owner: Unit, value: str) -> str:
         """A constant of a unit as the file had it."""

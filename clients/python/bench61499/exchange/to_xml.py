@@ -10,6 +10,7 @@ from bench61499.exchange.exchanged import (
     ELEMENT_RECORDS, SUBAPPS, Application, Connection, Device, Event, Instance, Mapping, Network, Parameter, Service, State, Unit, Variable, record_attributes, recorded,
 )
 from bench61499.exchange.generic import generic_type, structure_attribute
+from bench61499.exchange.guards import guards_of
 from bench61499.exchange.inouts import end_of_file, inputs_of
 from bench61499.exchange.kept import put_back
 from bench61499.exchange.outgoing import FBDK, Outgoing
@@ -47,8 +48,13 @@ def tree(unit: Unit, out: Outgoing) -> Tag:
         raise NotWritten("has states and a network, and XML has one of the two")
     root = Tag(ROOTS[unit.kind][0], {"Name": out.name(unit.name), "Comment": unit.comments[-1] if unit.comments else ""})
     root.add(*_records(unit), *_parts(unit, out))
-    put_back(root, unit.records, lambda path: out.tell(LEFT_OUT, unit.line, f"what is kept of {cut(path)}: that is no longer there"))
+    _put_back(root, out)
     return root
+
+
+def _put_back(root: Tag, out: Outgoing) -> None:
+    """Adds what the comments of a unit keep."""
+    put_back(root, out.unit.records, lambda path: out.tell(LEFT_OUT, out.unit.line, f"what is kept of {cut(path)}: that is no longer there"))
 
 
 def _parts(unit: Unit, out: Outgoing) -> Iterator[Tag]:
@@ -132,12 +138,13 @@ def _body(unit: Unit, out: Outgoing) -> Iterator[Tag]:
             out.tell(LEFT_OUT, its.line, f"the algorithm {its.name} of a composite block")
     elif unit.variables["VAR"] or unit.states is not None or unit.transitions or unit.algorithms:
         constants, blocks = ({it.get("name", "") for it in recorded(unit, kind)} for kind in ("Constant", "Internal"))
+        guards = guards_of(unit)
         internal = {False: "InternalVars", True: "InternalConstVars"}
-        own = [it for it in unit.variables["VAR"] if it.name not in blocks]
+        own = [it for it in unit.variables["VAR"] if it.name not in blocks and it.name not in guards]
         variables = [_group(name, (_variable(out, it) for it in own if (it.name in constants) == of)) for of, name in internal.items()]
         is_simple = _is_simple(unit)
         chart: list[Tag | None] = [_state(out, it) for it in (unit.states or [])[1:]] if is_simple else [_chart(unit, out)]
-        yield Tag("SimpleFB" if is_simple else "BasicFB").add(*variables, *chart, *(algorithm(out, it) for it in unit.algorithms))
+        yield Tag("SimpleFB" if is_simple else "BasicFB").add(*variables, *chart, *(algorithm(out, it) for it in unit.algorithms if it.name not in guards))
 
 
 def _chart(unit: Unit, out: Outgoing) -> Tag | None:
@@ -175,12 +182,26 @@ def _at(place: places.Place) -> dict[str, str]:
     return {"x": f"{place[0]}", "y": f"{place[1]}"}
 
 
-def _network(out: Outgoing, name: str, network: Network) -> Tag:
+def _subapplication(out: Outgoing, it: Instance, is_copy: bool) -> Tag:
+    """An instance of a subapplication. One without a type has its interface, and its network unless it is the copy in a resource."""
+    inner = out.within(it.type)
+    if not inner:
+        return _typed(out, "SubApp", it)
+    network = None if is_copy else _network(inner, "SubAppNetwork", inner.unit.network or Network())
+    tag = Tag("SubApp", {"Name": out.name(it.name), "Comment": it.comment}, [_interface(inner.unit, inner)])
+    own = {each.name.upper(): each.value for each in inner.unit.variables["VAR_INPUT"]}
+    tag.add(network, *(_parameter(out, each, it.line) for each in it.parameters if own.get(each.name.upper()) != each.value))
+    if not is_copy:
+        _put_back(tag, inner)
+    return tag
+
+
+def _network(out: Outgoing, name: str, network: Network, is_copy: bool = False) -> Tag:
     """A network with its instances placed. Parameters in the place of which a text has connections are put back."""
     given = _parameters(network)
     tags = []
     for it, corner in zip(network.instances, places.of_instances(network, out.types)):
-        tag = _typed(out, "SubApp" if it.section == SUBAPPS else "FB", it)
+        tag = _subapplication(out, it, is_copy) if it.section == SUBAPPS else _typed(out, "FB", it)
         tag.attributes |= _at(corner)
         tag.add(*(_parameter(out, each, it.line) for to, each in given if to == it.name))
         tags.append(tag)
@@ -262,7 +283,7 @@ class _System:
         for application in dict.fromkeys(owners.values()):
             for section, connections in self._networks[application].connections.items():
                 network.connections[section] += [it for it in connections if _stays(it, application, owners)]
-        return _network(self._out, "FBNetwork", network) if network.instances else None
+        return _network(self._out, "FBNetwork", network, is_copy=True) if network.instances else None
 
     def _instances(self, application: str) -> list[Instance]:
         return self._networks[application].instances if application in self._networks else []

@@ -2,16 +2,21 @@
 from __future__ import annotations
 
 import re
-from collections.abc import Callable, Iterator
+from collections.abc import Callable, Iterator, Mapping
 from itertools import islice
 from typing import NamedTuple
 
 from bench61499 import TEXT_LIMIT
 from bench61499.exchange import names
 from bench61499.exchange.context import Context
+from bench61499.exchange.exchanged import record
 from bench61499.exchange.forms import is_array, is_constant, is_type
 from bench61499.exchange.report import NOTE, UNCHECKED, cut
 from bench61499.exchange.xmlfile import Element
+from bench61499.language.declarations import type_of_data
+from bench61499.language.full_body import is_type as is_full_type
+from bench61499.language.full_body import is_value
+from bench61499.language.full_library import is_known_type
 
 _RANGE = re.compile(r"([+-]?\d{1,18})\s*\.\.\s*([+-]?\d{1,18})", re.ASCII)
 _COUNT = re.compile(r"\d{1,18}", re.ASCII)
@@ -22,6 +27,7 @@ _OF, _IS = re.compile(r"\] OF "), re.compile(" := ")
 _TRIES = 20
 _EXPONENT = re.compile(r"([+-]?\s*\d[\d_]*)([eE][+-]?\d+)", re.ASCII)
 _STRUCTURE = re.compile(r"\(.*:=.*\)", re.DOTALL)
+_TYPED_NAME = re.compile(r"([A-Za-z_]\w*)#[A-Za-z_]\w*", re.ASCII)
 NOT_A_TYPE = "no type"
 
 
@@ -80,16 +86,16 @@ def spelled_value(value: str, in_array: bool = False, change: Change = names.spe
     if len(value) > TEXT_LIMIT:
         return f"[{quoted(value)}]", True
     package, last = names.without_package(value)
-    new = names.replace_words(last if package and names.is_word(last) else with_point(value), names.OPERATOR_WORDS, change)
+    new = names.replace_words(last if package and (names.is_word(last) or _TYPED_NAME.fullmatch(last)) else with_point(value), names.OPERATOR_WORDS, change)
     if not value or is_constant(new):
         return new, False
     return quoted(value) if in_array else f"[{quoted(value)}]", True
 
 
 def with_point(value: str) -> str:
-    """A number with an exponent and no point, such as `1e5`, as `1.0E5`."""
+    """A number with an exponent and no point, such as `1e5`, as `1.0E5`; those of a list as `1.0e5`."""
     found = _EXPONENT.fullmatch(value)
-    return f"{found[1]}.0{found[2].upper()}" if found else value
+    return f"{found[1]}.0{found[2].upper()}" if found else names.with_points(value) if value.startswith("[") else value
 
 
 def _spelled_type(type_: str, change: Change) -> str:
@@ -151,26 +157,59 @@ def is_structure(context: Context, type_: str) -> bool:
     return root is not None and bool(root.named("StructuredType"))
 
 
-def _of_structure(context: Context, at: Element, value: str, name: str) -> str:
-    """The name in the place of a value of a structure, which fits every type; a record has the value."""
+def _as_name(context: Context, at: Element, value: str, name: str) -> str:
+    """The name in the place of a value of a structure or a list, which fits every type; a record has the value."""
     new = names.spelled(value)
     context.records[new] = value
     context.report.tell(UNCHECKED, at.line, f"the value {cut(value)} of {name} is kept as the name {new}, which is not checked")
     return new
 
 
+def _type_as_name(context: Context, at: Element, it: Typed, new: str) -> tuple[str, str]:
+    """The name in the place of the type of an array, such as one whose bounds have names, and the value as another one."""
+    name, own, words = cut(at.get("Name")), (it.ranges or "", it.type), it._replace(value="").words
+    new = new if context.types.get(new, own) == own else names.spelled(words)
+    context.types[new] = own
+    context.report.tell(UNCHECKED, at.line, f"the type {cut(words)} of {name} is kept as the name {new}, which is not checked")
+    return new, _as_name(context, at, it.value, name) if it.value else ""
+
+
+def type_records(types: Mapping[str, tuple[str, str]]) -> Iterator[str]:
+    """What comments keep of types that are names in the text, and that these are no types that are nowhere."""
+    for new, (ranges, type_) in types.items():
+        yield record("Type", {"text": new, "ranges": ranges, "type": type_})
+        yield record("Elsewhere", {"type": new.upper()})
+
+
+def _is_kept(context: Context, value: str, type_: str, may_be_array: bool) -> bool:
+    """Whether a value that is no constant of the language is one of full Structured Text, of a form that its type may have: a repetition in a list, the
+    fields of a structure, an expression. The type is empty if it is not known."""
+    if len(value) > TEXT_LIMIT or not is_value(value):
+        return False
+    if _STRUCTURE.fullmatch(value):
+        return not type_ or is_structure(context, type_) or not (may_be_array or _is_known(context, type_))
+    return may_be_array if value.startswith("[") else not (type_ and may_be_array)
+
+
+def _is_known(context: Context, type_: str) -> bool:
+    name = names.spelled(names.without_package(type_)[1]).upper()
+    return name in context.library.roots or is_known_type(type_of_data(type_))
+
+
 def variable(context: Context, at: Element, it: Typed) -> tuple[str, str]:
     """The type and the value of a variable of a file; tells what is replaced or left out."""
-    if it.ranges is None and _STRUCTURE.fullmatch(it.value) and is_structure(context, it.type):
-        return variable(context, at, it._replace(value=""))[0], _of_structure(context, at, it.value, cut(at.get("Name")))
     if it.ranges is not None and _COUNT.fullmatch(it.ranges) and not int(it.ranges):
         context.left_out(at, f"ArraySize {it.ranges} of {cut(at.get('Name'))}")
         it = it._replace(ranges=None)
     found, name = spelled(it), cut(at.get("Name"))
+    if found.is_type_replaced and it.ranges is not None and len(it.words) <= TEXT_LIMIT and is_full_type(it._replace(value="").words):
+        return _type_as_name(context, at, it, found.type)
     if found.is_type_replaced:
         words = f"the type {cut(it._replace(value='').words)} of {name} by {found.type}: it can't be spelled here"
         context.replaced(at, words if it.type else f"the type of {name} that is not there, by {found.type}")
         return found.type, found.value
+    if found.is_value_replaced and _is_kept(context, it.value, it.type, it.ranges is not None):
+        return variable(context, at, it._replace(value=""))[0], _as_name(context, at, it.value, name)
     if not found.is_value_replaced:
         constant(context, at, it.value, name)
     else:
@@ -182,8 +221,8 @@ def variable(context: Context, at: Element, it: Typed) -> tuple[str, str]:
 
 def constant(context: Context, at: Element, value: str, name: str, type_: str = "") -> str:
     """The value of a parameter whose type may be known, or a value that is known to be a constant."""
-    if type_ and _STRUCTURE.fullmatch(value) and is_structure(context, type_):
-        return _of_structure(context, at, value, name)
+    if spelled_value(value)[1] and _is_kept(context, value, type_, not type_):
+        return _as_name(context, at, value, name)
     if with_point(value) != value:
         context.report.tell(NOTE, at.line, f"the value {value} of {name} is written {with_point(value)}")
     new, is_replaced = spelled_value(value)
@@ -193,6 +232,9 @@ def constant(context: Context, at: Element, value: str, name: str, type_: str = 
     package, last = names.without_package(value)
     if package and names.is_word(last):
         return context.last_name(at, value)
+    if package and _TYPED_NAME.fullmatch(last):
+        context.packages[last] = package
+        return last
     return spelled_value(value, change=lambda word: context.name(at, word))[0]
 
 

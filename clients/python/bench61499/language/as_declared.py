@@ -1,16 +1,30 @@
 """The names of networks and plans, which the workbench gives in capitals, as the texts declare them."""
 from __future__ import annotations
 
-from collections.abc import Iterable, Iterator
+from collections.abc import Iterable, Iterator, Mapping
 from dataclasses import replace
 from functools import cache
 
 from bench61499 import Link
+from bench61499.language.copies import Originals
 from bench61499.language.declarations import ADAPTER_SECTIONS, APPLICATION, DEVICE, EVENT, INSTANCE, RESOURCE, VARIABLE, Declaration, Key, Unit
 from bench61499.language.texts import Texts
 
 _SPACES = {"event": EVENT, "data": VARIABLE}
 """The spaces of ports by the sorts of links."""
+
+
+def declared(texts: Texts, unit: str) -> str:
+    """The name of a unit as its text declares it. The unit's own name if the text declares another one first."""
+    its = texts.unit(unit)
+    words = its.declared[0].words if its and its.declared else unit
+    return words if words.upper() == unit.upper() else unit
+
+
+def shown_units(texts: Mapping[str, str], units: Iterable[str]) -> list[str]:
+    """Units as they are declared, copies of types as their originals, each once."""
+    of, originals = Texts.of(texts), Originals(texts)
+    return list(dict.fromkeys(declared(of, originals.of(it) or it) for it in units))
 
 
 class AsDeclared:
@@ -25,8 +39,7 @@ class AsDeclared:
         return self._spelled(path, "")[0]
 
     def type(self, name: str) -> str:
-        its = self._texts.unit(name)
-        return its.declared[0].words if its and its.declared else name
+        return declared(self._texts, name)
 
     def resource(self, name: str) -> str:
         """A resource, `DEVICE.RESOURCE`."""

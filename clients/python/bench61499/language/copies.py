@@ -5,7 +5,8 @@ import re
 from collections.abc import Mapping
 
 _MADE_FROM = re.compile(r"""\(\* MadeFrom: type="(\w+)" \*\)""")
-_TWICE = re.compile(r"\b(\w+)(?:(?:, | and )\1\b)+")
+_TWICE = re.compile(r"\b(\w+)(?:(?:, | and )\1\b)+", re.IGNORECASE)
+_NAME = re.compile(r"""\(\* Name: text="(\w+)" file="([^"]*)\"""")
 _GIVEN = re.compile(r"""\(\* Given: name="(\w+)" value="([^"]*)\"""")
 
 
@@ -21,7 +22,7 @@ class Originals:
     def __init__(self, texts: Mapping[str, str]):
         self._names = {unit: name for unit, text in texts.items() if (name := original(text))}
         self._texts = texts
-        self._words = re.compile(rf"\b(?:{'|'.join(map(re.escape, self._names))})\b")
+        self._words = re.compile(rf"\b(?:{'|'.join(map(re.escape, self._names))})\b", re.IGNORECASE)
 
     def __bool__(self) -> bool:
         return bool(self._names)
@@ -32,9 +33,11 @@ class Originals:
 
     def words(self, words: str) -> str:
         """Words with the names of originals in the place of those of copies."""
-        return _TWICE.sub(r"\1", self._words.sub(lambda it: self._names[it[0]], words))
+        return _TWICE.sub(r"\1", self._words.sub(lambda it: self._names[it[0].upper()], words))
 
     def described(self, unit: str) -> str:
         """A copy as the original with its parameters."""
-        given = (f"{name} := {value}" for name, value in _GIVEN.findall(self._texts[unit]))
+        text = self._texts[unit]
+        files = dict(_NAME.findall(text))
+        given = (f"{name} := {files.get(value, value)}" for name, value in _GIVEN.findall(text))
         return f"{self._names[unit]} with {', '.join(given)}"

@@ -8,6 +8,7 @@ from bench61499.language.declarations import (
 from bench61499.language.surroundings import Surroundings, side, sort
 from bench61499.language.syntax import explained
 from bench61499.language.texts import NEAR, NOTHING, Texts
+from bench61499.language.widening import is_converted
 from bench61499.language.wording import Names, asked, listed, one_line, quoted
 
 __all__ = ["Explainer", "Names"]
@@ -114,7 +115,9 @@ class Explainer:
     def _explain_unknown_type(self, at: int, words: str) -> str:
         if words in self._units:
             return f"the type {words} can't be used: its own text has a SYNTAX fault"
-        return f"there is no type {words}{asked(self._near_type(at, words) or self._units.near(words))}"
+        near = self._near_type(at, words) or self._units.near(words)
+        is_other = near and near.upper() != words.upper()  # Of a unit that others have removed there may be a file.
+        return f"there is no type {words}{asked(near if is_other else None)}"
 
     def _near_type(self, at: int, words: str) -> str | None:
         """The unit with a near name that can stand in the section at `at`."""
@@ -254,7 +257,8 @@ class Explainer:
         other = self._at.other_end(at)
         source, its = self._port(other), self._port(at)
         if source and its and source.type and its.type:
-            return f"{self._at.end(other)} is {one_line(source.type)}, {words} is {one_line(its.type)}"
+            types = f"{self._at.end(other)} is {one_line(source.type)}, {words} is {one_line(its.type)}"
+            return f"{types}; 4diac converts this, the workbench compares the names of types" if is_converted(source.type, its.type) else types
         return f"{self._at.end(other)} and {words} are of different types"
 
     def _explain_second_source(self, at: int, words: str) -> str:

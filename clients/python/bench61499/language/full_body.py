@@ -98,6 +98,23 @@ def read_body(algorithm: str, text: bytes, begin: int, end: int, is_full: bool) 
     return reader.body
 
 
+def is_value(words: str) -> bool:
+    """Whether words spell a value in full Structured Text: an expression, a list, or the fields of a structure."""
+    return _is_variable(f"INT := {words}")
+
+
+def is_type(words: str) -> bool:
+    """Whether words spell a type in full Structured Text, such as an array whose bounds have names."""
+    return _is_variable(words)
+
+
+def _is_variable(words: str) -> bool:
+    """Whether words are what may stand behind the name of a variable."""
+    text = f"VAR V : {words}; END_VAR".encode()
+    body = read_body("V", text, 0, len(text), True)
+    return body.is_read and sum(it.words == ";" for it in body.tokens) == 1
+
+
 class _Reader:
     """Goes once through the tokens, and raises `NotRead` at the first that is not expected."""
 

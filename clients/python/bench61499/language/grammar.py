@@ -286,7 +286,7 @@ class _Matcher:
         return None if self._at == len(self._of) else Stop(self._at)
 
     def recover(self, stop: Stop) -> bool:
-        """Goes on behind a stop: with what was needed there, or else with the next word that begins or ends a section; False where there is none."""
+        """Continues after a stop: with what was needed there, or else with the next word that begins or ends a section; False where there is none."""
         if not stop.open or stop.at == len(self._of):
             return False
         if not stop.closable and not self._next.isdisjoint(_first_of_row(self._stack[::-1])[0]):

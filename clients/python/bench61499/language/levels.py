@@ -4,7 +4,7 @@ from __future__ import annotations
 from collections import defaultdict
 from collections.abc import Iterable
 
-MOST_SHOWN = 120
+MOST_SHOWN = 40
 """Boxes up to which subapplications are open unless somebody asks for others."""
 AUTO, ALL, NONE = "auto", "all", "-"
 

@@ -6,6 +6,7 @@ from collections.abc import Iterator, Sequence
 from dataclasses import dataclass
 
 from bench61499 import Blocked, Deploy, Faulty, Flat, Misplaced, Net, Plan, Recursive, Stopped, There, TooLarge
+from bench61499.language.as_declared import AsDeclared, declared
 from bench61499.language.declarations import INSTANCE, LOCAL, TYPE, Declaration, Key, Unit, type_of_data
 from bench61499.language.surroundings import Surroundings
 from bench61499.language.texts import Texts
@@ -50,30 +51,32 @@ class Reasons:
                 return
             case Faulty(misplaced):
                 places = _mappings(text)
-                yield from (Reason(unit, it.reason, *self._place(unit, it, places), why_misplaced(it)) for it in misplaced)
+                names = AsDeclared(self._texts, unit)
+                yield from (Reason(unit, it.reason, *self._place(unit, it, places), why_misplaced(it, names)) for it in misplaced)
             case Stopped(net):
                 yield from self._of_net(unit, "plan", net)
             case net:
                 yield from self._of_net(unit, "network", net)
 
     def _of_net(self, unit: str, what: str, net: Blocked | Recursive | TooLarge) -> Iterator[Reason]:
+        without = f"{declared(self._texts, unit)} has no {what}"
         match net:
             case Blocked(units) if units != (unit,):
                 absent = [it for it in units if not self._texts.unit(it)]
-                why = why_blocked(absent, [it for it in units if it not in absent])
-                yield Reason(unit, "BLOCKED", *self._way(unit, units), f"{unit} has no {what}: {why}")
+                why = why_blocked(absent, [declared(self._texts, it) for it in units if it not in absent])
+                yield Reason(unit, "BLOCKED", *self._way(unit, units), f"{without}: {why}")
             case Recursive(units):
                 yield from (self._loop(it) for it in units if it not in self._told and self._texts.unit(it))
                 self._told.update(units)
                 if unit not in units:
-                    yield Reason(unit, "RECURSIVE", *self._way(unit, units), f"{unit} has no {what}: {_contain(units)}")
+                    yield Reason(unit, "RECURSIVE", *self._way(unit, units), f"{without}: {_contain([declared(self._texts, it) for it in units])}")
             case TooLarge():
-                yield Reason(unit, "TOO_LARGE", *self._name(unit), f"{unit} has no {what}: it has more than 4,096 instances")
+                yield Reason(unit, "TOO_LARGE", *self._name(unit), f"{without}: it has more than 4,096 instances")
 
     def _loop(self, unit: str) -> Reason:
         """A type that contains itself, at the instance that leads back to it."""
         steps = ", ".join(self._steps(unit))
-        return Reason(unit, "RECURSIVE", *self._way(unit, (unit,)), f"{unit} contains itself{steps and f': {steps}'}")
+        return Reason(unit, "RECURSIVE", *self._way(unit, (unit,)), f"{declared(self._texts, unit)} contains itself{steps and f': {steps}'}")
 
     def _steps(self, unit: str) -> list[str]:
         """The instances that lead from a type back to it by the shortest way; none where the texts have no such way."""
@@ -84,7 +87,7 @@ class Reasons:
             for it in self._typed(at):
                 of = type_of_data(it.type)
                 if of not in ways:
-                    ways[of] = [*way, f"{at}.{it.words} is {of}"]
+                    ways[of] = [*way, f"{declared(self._texts, at)}.{it.words} is {declared(self._texts, of)}"]
                     waiting.append((of, ways[of]))
         return ways.get(unit, [])
 
@@ -137,8 +140,8 @@ def why_blocked(absent: Sequence[str], faulty: Sequence[str]) -> str:
     return ", ".join(f"{_some(its)} {one if len(its) == 1 else many}" for its, one, many in parts if its)
 
 
-def why_misplaced(it: Misplaced) -> str:
-    return f"no mapping gives {it.path} a resource" if it.reason == "UNMAPPED" else f"a mapping is of {it.path}, which is not there"
+def why_misplaced(it: Misplaced, names: AsDeclared) -> str:
+    return f"no mapping gives {names.path(it.path)} a resource" if it.reason == "UNMAPPED" else f"a mapping is of {names.path(it.path)}, which is not there"
 
 
 def _types(unit: Unit | None) -> set[str]:

@@ -121,7 +121,7 @@ class Reader:
         return token
 
     def _until(self, *ends: str) -> int:
-        """Goes on to the first of these outside brackets, to the end of the item or the section; gives where it began."""
+        """Moves on to the first of these outside brackets, to the end of the item or the section; gives where it began."""
         begin, depth = self._at, 0
         while not self._is_over() and not self._is_boundary():
             words = self._upper[self._at]
@@ -132,7 +132,7 @@ class Reader:
         return begin
 
     def _over(self, end: str) -> None:
-        """Goes on to a word, over all else; where there is none, to the next section."""
+        """Moves on to a word, over all else; where there is none, to the next section."""
         if end in self._upper[self._at :]:
             self._at = self._upper.index(end, self._at)
             return

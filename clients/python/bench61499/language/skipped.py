@@ -9,6 +9,8 @@ from bench61499.language.tokens import Token, is_name, tokens
 
 CODE = "NOT_CHECKED"
 FULL = "ST_FULL"
+GUARD = "GUARD__"
+"""What the name of an algorithm begins with that keeps a guard of a file of XML."""
 _READ = "ST"
 _OTHER_HEAD = re.compile(r"ALGORITHM(?<!\wALGORITHM)\b(?!\s+\w+\s+IN\s+ST\b)")
 """What may begin an algorithm in another language, in a text in upper case. It begins with letters, as a search for these is fast."""
@@ -33,7 +35,13 @@ class Head(NamedTuple):
         return self.language.upper == _READ
 
     @property
+    def is_guard(self) -> bool:
+        return self.name.startswith(GUARD)
+
+    @property
     def explanation(self) -> str:
+        if self.is_guard:
+            return f"the guard that the algorithm {self.name} keeps is IN {self.language.words}, which the workbench does not read"
         return f"the algorithm {self.name} is IN {self.language.words}, which the workbench does not read"
 
 

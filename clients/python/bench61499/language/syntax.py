@@ -7,17 +7,21 @@ from itertools import takewhile
 from bench61499 import NAME_LIMIT
 from bench61499.language.declarations import ENDS, KINDS, STATEMENTS
 from bench61499.language.grammar import DEEPEST, NAME, Close, Stop, stops
+from bench61499.language.merging import is_marked
 from bench61499.language.tokens import RESERVED, Token, is_name
 from bench61499.language.wording import Names, asked, listed, one_line, quoted
 
 _ENDING = frozenset([*ENDS.values(), *(f"END_{word}" for word in STATEMENTS)])
 _MOST_EXPECTED = 4
 _WORDS = Names(RESERVED)
+MARKED = "these are the marked lines of a merge: keep what is meant, and delete the lines that begin with <<<<<<<, ======= and >>>>>>>"
 XML = "this is XML (IEC 61499-2), which bench61499 does not read; clients/exchange import translates it"
 
 
 def explained(text: str, of: Sequence[Token], at: int) -> str:
     """Why a text can't go on with the token at `at`, or can't end where that is behind the last one."""
+    if is_marked(text):
+        return MARKED
     if text.lstrip("\ufeff \t\r\n").startswith("<"):
         return XML
     if not of:

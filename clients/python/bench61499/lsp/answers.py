@@ -2,7 +2,7 @@
 from __future__ import annotations
 
 import time
-from collections.abc import Callable, Iterable
+from collections.abc import Callable, Iterable, Mapping
 from pathlib import Path
 from typing import Any
 
@@ -11,11 +11,13 @@ from bench61499.language.layout import Edit, applied, formatted
 from bench61499.language.plant import Plant, Text
 from bench61499.language.positions import Position, place
 from bench61499.language.spelling import differing_in
+from bench61499.lsp.asking import edits_between
 from bench61499.lsp.choices import TITLES, Choices
 from bench61499.lsp.completion import ItemKind, candidates
 from bench61499.lsp.documents import Diagnostic, path_of
-from bench61499.lsp.fixes import Fix, fixes
 from bench61499.lsp.edits import workspace_edit
+from bench61499.lsp.extract import CantExtract, chosen, extracted
+from bench61499.lsp.fixes import Fix, fixes
 from bench61499.lsp.folding import folding_ranges
 from bench61499.lsp.highlight import TOKEN_MODIFIERS, TOKEN_TYPES, semantic_tokens
 from bench61499.lsp.hints import hints
@@ -30,6 +32,8 @@ from bench61499.lsp.snippets import SNIPPETS, label
 
 PATIENCE = 0.01
 """Seconds that an answer may wait for files and texts to be read."""
+_FIX, _EXTRACTION = "quickfix", "refactor.extract"
+"""The kinds of code actions."""
 _IS_SNIPPET = 2
 """The format of a text to insert that has places to fill in."""
 CAPABILITIES = {
@@ -45,7 +49,7 @@ CAPABILITIES = {
     "completionProvider": {"triggerCharacters": ["."]},
     "signatureHelpProvider": {"triggerCharacters": ["(", ","]},
     "renameProvider": {"prepareProvider": True},
-    "codeActionProvider": {"codeActionKinds": ["quickfix"]},
+    "codeActionProvider": {"codeActionKinds": [_FIX, _EXTRACTION]},
     "executeCommandProvider": {"commands": list(TITLES)},
     "semanticTokensProvider": {
         "legend": {"tokenTypes": list(TOKEN_TYPES), "tokenModifiers": list(TOKEN_MODIFIERS)},
@@ -70,8 +74,10 @@ class Answers:
     """Answers by the texts as they are now.
 
     `catch_up` takes in the files that have changed until a time, and tells whether that is all; `shown` gives what the editor shows of a file;
-    `lacks` is told what was answered though not all was read; `choices` are what the user can do with texts that others have changed.
-    It `has_snippets` if the editor can fill in their places; `file_operations` are those that it can do, such as `rename`.
+    `lacks` is told what was answered though not all was read; `choices` are what the user can do with texts that others have changed;
+    `elsewhere` gives the texts of the units of the workbench that have no file here.
+    It `has_snippets` if the editor can fill in their places, and `tells_refusals` if it shows why an action can't be done; `file_operations` are those that it
+    can do, such as `rename`.
     """
 
     def __init__(
@@ -81,10 +87,11 @@ class Answers:
         shown: Callable[[Path], list[Diagnostic]],
         lacks: Callable[[str], None],
         choices: Choices,
+        elsewhere: Callable[[], Mapping[str, str]],
     ):
-        self._plant, self._catch_up, self._shown, self._lacks, self._choices = plant, catch_up, shown, lacks, choices
+        self._plant, self._catch_up, self._shown, self._lacks, self._choices, self._elsewhere = plant, catch_up, shown, lacks, choices, elsewhere
         self._lacking: set[str] = set()
-        self.has_snippets = False
+        self.has_snippets = self.tells_refusals = False
         self.file_operations: frozenset[str] = frozenset()
 
     def answer(self, method: str, params: Any) -> Any:
@@ -185,11 +192,27 @@ class Answers:
 
     def _code_actions(self, text: Text, params: Any) -> Any:
         only = params["context"].get("only")
-        if only and "quickfix" not in only:
-            return []
+        is_wanted = {kind: not only or any(f"{kind}.".startswith(f"{it}.") for it in only) for kind in (_FIX, _EXTRACTION)}
+        return [*(self._mending(text, params) if is_wanted[_FIX] else []), *(self._extraction(text, params) if is_wanted[_EXTRACTION] else [])]
+
+    def _mending(self, text: Text, params: Any) -> list[Any]:
         mended = [self._action(fix, it) for it in params["context"]["diagnostics"] for fix in self._fixes(text, it)]
         mapped = [self._action(fix) for fix in mappings(self._plant, text, *self._span(text, params))] if self._plant.is_read() else []
         return [*mended, *mapped, *self._choices.actions(text.file, self._shown(text.file))]
+
+    def _extraction(self, text: Text, params: Any) -> list[Any]:
+        """A part of a network as a subapplication, for the instances in a range; if they are selected and it can't be done, why."""
+        start, end = self._span(text, params)
+        moved = chosen(text, start, end) if self._plant.is_read() and "create" in self.file_operations else []
+        if not moved:
+            return []
+        try:
+            its = extracted(self._plant, text, moved, self._elsewhere())
+        except CantExtract as error:
+            told = {"disabled": {"reason": str(error)}} if self.tells_refusals else {}
+            return [{"title": f"Extract a subapplication: {error}", "kind": _EXTRACTION, **told}] if start < end else []
+        changes = {it.uri: edits_between(it.text, after) for it, after in its.changed}
+        return [{"title": its.title, "kind": _EXTRACTION, "edit": workspace_edit(changes, (text.file.with_name(f"{its.name}.fb"), its.text))}]
 
     def _do(self, command: str, uri: str) -> None:
         """Does what a code action names."""
@@ -203,7 +226,7 @@ class Answers:
     def _action(self, fix: Fix, shown: Diagnostic | None = None) -> Any:
         edits = [self._edit(fix.text, it) for it in ((fix.start, fix.end, fix.new), *fix.more)]
         edit = workspace_edit({fix.text.uri: edits}, (fix.text.file.with_name(fix.creates[0]), fix.creates[1]) if fix.creates else None)
-        return {"title": fix.title, "kind": "quickfix", **({"diagnostics": [shown]} if shown else {}), "edit": edit}
+        return {"title": fix.title, "kind": _FIX, **({"diagnostics": [shown]} if shown else {}), "edit": edit}
 
     def _tokens(self, text: Text, params: Any) -> Any:
         start, end = self._span(text, params) if "range" in params else (0, len(text.places.encoded))

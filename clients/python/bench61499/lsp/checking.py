@@ -21,6 +21,7 @@ from bench61499.lsp.rpc import INFO, WARNING, Message
 from bench61499.lsp.sources import Sources
 from bench61499.lsp.talk import Talk
 from bench61499.lsp.teamtalk import TeamTalk
+from bench61499.sync.editors import Opened, Reporter
 
 PIECE = 0.005
 """Seconds for which files and texts are read before the next message is looked for."""
@@ -50,6 +51,7 @@ class Checking:
         self.choices = Choices(self, self.asking)
         self._offers = Offers(self.asking, self._is_open, self.choices.expect)
         self._vanished = Vanished(self.asking, self._release)
+        self._reporter = Reporter()
         self._wanted = self._passed = Wanted()
         self._is_dirty = False
         self._insisted: set[Path] = set()
@@ -118,6 +120,10 @@ class Checking:
         """What the editor shows of a file."""
         return self._shown.get(path, [])
 
+    def elsewhere(self) -> dict[str, str]:
+        """The texts of the units of the workbench that have no file here."""
+        return self._pages.elsewhere()
+
     # What the user can do with texts that others have changed
 
     def document(self, path: Path) -> Document | None:
@@ -156,6 +162,16 @@ class Checking:
     def close(self) -> None:
         """Ends the workbench, with what it is doing."""
         self._talk.close()
+        self._reporter.close()
+
+    def _report_opened(self) -> None:
+        """Reports what is open to a `sync` of the folder, if there is one: it leaves to the editor what is not saved, as that is committed from here."""
+        opened: dict[Path, Opened] = {}
+        for path in self._sources.documents if self._talk.gives_texts else ():
+            if unit := self._unit_of(path):
+                it = self._pages.units.get(unit)
+                opened[path] = Opened(unit, self._sources.is_unsaved(path), it.common if it else None)
+        self._reporter.report(opened)
 
     # Files
 
@@ -213,7 +229,7 @@ class Checking:
         return 0.0 if is_answered else max(0.0, self._ahead_from - time.monotonic())
 
     def _follow_talk(self) -> None:
-        """Goes on with another talk where the server turns out to be of another kind, and shows it if nothing is known now."""
+        """Continues with another talk where the server turns out to be of another kind, and shows it if nothing is known now."""
         if self._talk.is_over:
             self._talk.close()
             self._talk = self._new_talk()
@@ -250,8 +266,10 @@ class Checking:
             self._wanted.shut | shut,
             {**self._wanted.forced, **{unit: it for path, it in self._forced.items() if (unit := self._unit_of(path))}},
             {**self._wanted.agreed, **{unit: it for path, it in self._agreed.items() if (unit := self._unit_of(path))}},
+            {**self._wanted.renamed, **self._sources.take_renamed()},
         ), True
         self._insisted, self._shut, self._forced, self._agreed = set(), set(), {}, {}
+        self._report_opened()
         self._show(changed)
 
     def _units_of(self, paths: Iterable[Path]) -> frozenset[str]:
@@ -275,6 +293,7 @@ class Checking:
         if news.is_brought:
             self._drop_passed()
         self._tell_taken(sorted(lost))
+        self._report_opened()
         found = {unit: path for unit in news.units | news.faults if (path := self._sources.owners.get(unit))}
         for unit, path in found.items():
             self._offers.note(path, unit, self._pages.units[unit], self._wanted.texts.get(unit))
@@ -289,6 +308,7 @@ class Checking:
             shut=wanted.shut - passed.shut,
             forced=dict(wanted.forced.items() - passed.forced.items()),
             agreed=dict(wanted.agreed.items() - passed.agreed.items()),
+            renamed=dict(wanted.renamed.items() - passed.renamed.items()),
         )
 
     def _tell_taken(self, units: list[str]) -> None:

@@ -9,7 +9,7 @@ from difflib import unified_diff
 from pathlib import Path
 from typing import Any, NamedTuple, Protocol
 
-from bench61499.language.merging import merged
+from bench61499.language.merging import is_marked, merged
 from bench61499.language.wording import counted
 from bench61499.lsp.asking import Asking, edits_between
 from bench61499.lsp.commits import Unit
@@ -94,7 +94,7 @@ class Choices:
             return [PUT]
         can_edit = self._asking.can("workspace", "applyEdit")
         is_merge = it.common is not None and it.common not in (text, it.text)
-        return [*([TAKE] if can_edit else []), COMPARE, *([MERGE] if can_edit and is_merge else []), PUT]
+        return [*([TAKE] if can_edit else []), COMPARE, *([MERGE] if can_edit and is_merge else []), *([] if is_marked(text) else [PUT])]
 
     def do(self, command: str, path: Path) -> str | None:
         """Does a command; gives why it can't be done."""

@@ -45,7 +45,7 @@ class Wanted:
 
     `kept` are units without a text here that stay in the workbench, and `shut` those whose editor was closed since the last turn. `forced` are units
     whose texts are to be put over those of others, by the revision that the user has seen; `agreed` are the last texts of others that
-    went into those here, None for none.
+    went into those here, None for none. `renamed` are units that have other names now, with these.
     """
 
     texts: Mapping[str, str] = field(default_factory=dict)
@@ -55,6 +55,7 @@ class Wanted:
     shut: frozenset[str] = frozenset()
     forced: Mapping[str, int] = field(default_factory=dict)
     agreed: Mapping[str, str | None] = field(default_factory=dict)
+    renamed: Mapping[str, str] = field(default_factory=dict)
 
 
 @dataclass
@@ -108,8 +109,9 @@ class Committed(ABC):
         Of files it takes so many at `most`, those first that are open or to be `first`, and tells whether there are more.
         """
         new = [unit for unit in self._looked_at() if self._is_to_put(unit, self._wanted.texts[unit])]
-        mine = [unit for unit in new if unit in self._wanted.insisted]
-        others = sorted((unit for unit in new if unit not in self._wanted.insisted), key=lambda it: it not in self._wanted.open and it not in first)
+        of_user = self._wanted.insisted.union(self._wanted.renamed.values())
+        mine = [unit for unit in new if unit in of_user]
+        others = sorted((unit for unit in new if unit not in of_user), key=lambda it: it not in self._wanted.open and it not in first)
         self._commit(session, [*self._gone(), *self._puts(mine)], changed)
         self._commit(session, self._puts(others[:most]), changed)
         return len(others) > most
@@ -119,9 +121,13 @@ class Committed(ABC):
         return self._wanted.texts
 
     def _gone(self) -> list[Change]:
-        """The removals of units that were put from here and have no text here any more."""
+        """The removals of units that were put from here, or renamed here, and have no text here any more."""
         left = [unit for unit in self._units if unit not in self._wanted.texts and unit not in self._wanted.kept]
-        return [Remove(unit, it.revision) for unit in left if (it := self._units[unit]).text is not None and it.is_ours]
+        return [Remove(unit, it.revision) for unit in left if (it := self._units[unit]).text is not None and (it.is_ours or self._is_renamed(unit, it))]
+
+    def _is_renamed(self, unit: str, it: Unit) -> bool:
+        """Whether the user has renamed a unit that others have put, and nobody has changed it since."""
+        return unit in self._wanted.renamed and not it.is_changed
 
     def _puts(self, units: Iterable[str]) -> list[Change]:
         return [Put(unit, self._units.get(unit, ABSENT).revision, self._wanted.texts[unit]) for unit in units]

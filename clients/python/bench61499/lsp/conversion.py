@@ -4,9 +4,9 @@ from __future__ import annotations
 from collections.abc import Iterator
 from typing import NamedTuple
 
-from bench61499.exchange.widening import wider
 from bench61499.language.declarations import EVENT, EVENT_SECTIONS, INSTANCE, VARIABLE, Connection, Declaration, Key, Use
 from bench61499.language.plant import Plant, Text
+from bench61499.language.widening import wider
 
 Edit = tuple[int, int, str]
 _TYPE = """\

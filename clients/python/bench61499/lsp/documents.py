@@ -18,7 +18,7 @@ class Document:
     """A text that is open in the editor.
 
     `raw` is as the editor has it, `text` the same without halves of characters, `saved` the text that the file had when it was
-    opened, or this one. `is_published` tells whether the editor shows what was found of
+    opened, or this one, and `written` the one that both were last known to have, if there is a file. `is_published` tells whether the editor shows what was found of
     this version.
     """
 
@@ -27,6 +27,7 @@ class Document:
     raw: str
     text: str
     saved: str
+    written: str | None
     is_published: bool = False
 
     @property

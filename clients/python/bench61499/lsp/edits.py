@@ -36,11 +36,13 @@ def _of_text(uri: str, edits: Edits) -> dict[str, Any]:
 
 
 def file_operations(capabilities: Any) -> frozenset[str]:
-    """What an editor has said that it can do with files in an edit: create, rename or delete them."""
+    """What an editor has said that it can do with files in an edit: create, rename or delete them.
+
+    Neovim says so and does not say that it takes edits of that form: it creates files by them, and skips or saves what it renames.
+    """
     edit = capabilities
     for word in ("workspace", "workspaceEdit"):
         edit = edit.get(word) if isinstance(edit, dict) else None
-    if not isinstance(edit, dict) or edit.get("documentChanges") is not True:
-        return frozenset()
-    its = edit.get("resourceOperations")
-    return frozenset(it for it in its if isinstance(it, str)) if isinstance(its, list) else frozenset()
+    its = edit.get("resourceOperations") if isinstance(edit, dict) else None
+    named = frozenset(it for it in its if isinstance(it, str)) if isinstance(its, list) else frozenset()
+    return named if isinstance(edit, dict) and edit.get("documentChanges") is True else named & {"create"}

@@ -215,16 +215,25 @@ def _point_follows(text: Text, use: Use) -> bool:
 
 
 def added(text: Text, section: str, item: str, application: str = "") -> tuple[int, int, str]:
-    """Where an item is to be put in, and the words for it: at the end of a section, or in a new one at the begin of its unit or application."""
+    """Where an item is to be put in, and the words for it: at the end of a section, or in a new one at the begin of its unit or application; subapplications
+    follow blocks."""
     its = [it for it in pieces(text.text) if it.kind != "comment"]
     head = text.unit.declared[0]
     if application:
         name, _, number = application.partition("#")
         head = [it for it in text.unit.declared if it.section == "APPLICATION" and it.key.name == name][int(number or 1) - 1]
+    sections: dict[str, tuple[Token, Token]] = {}
     for begin, end in Nesting(its).pairs:
-        if its[begin].upper == section and head.begin <= its[begin].start < head.last:
-            return at_end(text, its[end].start, item)
-    return _behind_head(text, head.begin, head.end, f"{section} {item} {ENDS[section]}")
+        if head.begin <= its[begin].start < head.last:
+            sections.setdefault(its[begin].upper, (its[begin], its[end]))
+    if section in sections:
+        return at_end(text, sections[section][1].start, item)
+    indent, words = _indent(text, head.begin) or "", f"{section} {item} {ENDS[section]}"
+    if section == "SUBAPPS" and "FBS" in sections:
+        first, last = sections["FBS"]
+        its_indent = _indent(text, first.start)
+        return _behind(text, last.end, f"{indent}  " if its_indent is None else its_indent, words)
+    return _behind(text, head.end, f"{indent}  ", words)
 
 
 def at_end(text: Text, place: int, item: str) -> tuple[int, int, str]:
@@ -235,15 +244,15 @@ def at_end(text: Text, place: int, item: str) -> tuple[int, int, str]:
     return place, place, f"  {item}{_line_end(text)}{indent}"
 
 
-def _behind_head(text: Text, begin: int, end: int, words: str) -> tuple[int, int, str]:
-    """In a line of its own, behind a head and the comments in its line."""
+def _behind(text: Text, end: int, indent: str, words: str) -> tuple[int, int, str]:
+    """In a line of its own, after a place and the comments in its line."""
     encoded = text.places.encoded
     for piece in pieces(text.text):
         if piece.start >= end:
             if piece.kind != "comment" or b"\n" in encoded[end : piece.start]:
                 break
             end = piece.end
-    return end, end, f"{_line_end(text)}{_indent(text, begin) or ''}  {words}"
+    return end, end, f"{_line_end(text)}{indent}{words}"
 
 
 def _indent(text: Text, place: int) -> str | None:

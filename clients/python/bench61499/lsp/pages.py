@@ -20,7 +20,7 @@ from bench61499.lsp.sources import Sources
 
 OLD = "as last known"
 LEAST_AGE = 5.0
-"""Seconds after which the age of a change is told anew, at the earliest; later once it is twice as old."""
+"""Seconds after which the age of a change is shown again, at the earliest; later once it is twice as old."""
 
 
 class Pages:
@@ -49,12 +49,16 @@ class Pages:
         self.units |= news.units
         self.faults |= news.faults
 
+    def elsewhere(self) -> dict[str, str]:
+        """The texts of the units of the workbench that have no file here, as far as they are known."""
+        return {unit: it.text or "" for unit, it in self.units.items() if it.revision and unit not in self._sources.owners}
+
     def due(self) -> float | None:
-        """When the age of a change is to be told anew."""
+        """When the age of a change must be shown again."""
         return min(self._ages.values(), default=None)
 
     def aged(self) -> list[Path]:
-        """The files of which the age of a change is to be told anew."""
+        """The files of which the age of a change must be shown again."""
         now = time.monotonic()
         return [path for path, due in self._ages.items() if due <= now]
 
@@ -80,7 +84,7 @@ class Pages:
     def _known(self, path: Path, text: str, unit: str, it: Unit, is_open: bool) -> list[Diagnostic] | None:
         """Of a unit of which it is known what the workbench has."""
         faults = self.faults.get(unit)
-        names, texts = Names(self._sources.owners if faults else ()), self._sources.plant.known
+        names, texts = Names(filter(self._is_there, self._sources.owners) if faults else ()), self._sources.plant.known
         if it.text is not None and not it.is_changed:
             if it.text != text or faults is None:
                 return None
@@ -93,8 +97,13 @@ class Pages:
         self._others[path] = of_others(text, faults or (), names, texts)
         return [*([remark(text, why)] if is_open or self.gives_texts else []), *self._others[path]]
 
+    def _is_there(self, unit: str) -> bool:
+        """Whether the workbench has a unit of a file, as far as that is known: somebody may have removed it."""
+        it = self.units.get(unit)
+        return it is None or it.revision > 0
+
     def _changed(self, path: Path, unit: str, it: Unit) -> str:
-        """Who has changed a unit, and when; that is told anew as time goes by."""
+        """Who has changed a unit, and when; that is shown again as time goes by."""
         now = time.monotonic()
         if it.author:
             self._ages[path] = now + max(LEAST_AGE, now - it.author.heard)

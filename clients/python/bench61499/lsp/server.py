@@ -32,8 +32,8 @@ class Server:
 
     def __init__(self, open_workbench: Callable[[], Session], shared: bool, send: Callable[[Message], None], wake: Callable[[], None]):
         self._send = send
-        self._checking = Checking(open_workbench, shared, send, wake)
-        self._answers = Answers(self._checking.plant, self._checking.catch_up, self._checking.shown, self._checking.lacks, self._checking.choices)
+        checking = self._checking = Checking(open_workbench, shared, send, wake)
+        self._answers = Answers(checking.plant, checking.catch_up, checking.shown, checking.lacks, checking.choices, checking.elsewhere)
         self._calls = calls.Calls(lambda: self._checking.plant, self._checking.values, lambda: self._checking.trouble, send)
         self._reading = Reading(self._checking.asking)
         self._initialized = self._shut_down = self._can_register = False
@@ -135,6 +135,7 @@ class Server:
         if asking.can("textDocument", "publishDiagnostics", "relatedInformation"):
             self._checking.relate()
         self._answers.has_snippets = asking.can("textDocument", "completion", "completionItem", "snippetSupport")
+        self._answers.tells_refusals = asking.can("textDocument", "codeAction", "disabledSupport")
         self._answers.file_operations = file_operations(asking.capabilities)
         self._checking.watch([path for path in paths if os.path.isdir(path)])
         self._initialized = True

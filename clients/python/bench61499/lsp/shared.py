@@ -227,7 +227,7 @@ class SharedTexts(Committed):
     # After a connection has ended
 
     def resume(self, session: Session, is_new: bool) -> None:
-        """Goes on with another session: of a workbench that `is_new`, or of the same one, in which others may have changed something meanwhile."""
+        """Continues with another session: of a workbench that `is_new`, or of the same one, in which others may have changed something meanwhile."""
         self.session = session
         known = {unit: it.revision for unit, it in self._units.items()}
         now = {} if is_new else session.changed(known)

@@ -10,9 +10,12 @@ from typing import Any
 from bench61499.language.folder import Stamp, stamp_of, stamps_of
 from bench61499.language.plant import Plant
 from bench61499.language.positions import changed, sound
+from bench61499.language.tokens import declared_name
 from bench61499.language.units import Misuse, can_be_unit, leads_out, read_text, stand_in_name
 from bench61499.lsp.documents import Document, Source, path_of
 
+LONGEST_RENAMING = 10.0
+"""Seconds in which an editor makes the edit that renames a unit."""
 LEAST_FILES = 32
 """Files that are looked at in any case."""
 
@@ -32,6 +35,8 @@ class Sources:
         self._sources: dict[Path, Source] = {}
         self._changed: dict[Path, Source | None] = {}
         self._expected: dict[Path, str] = {}
+        self._renaming: dict[str, str] = {}
+        self._renamed_by = 0.0
         self._links: set[Path] = set()
         self._look: Iterator[Path | None] | None = None
 
@@ -39,7 +44,8 @@ class Sources:
 
     def open(self, uri: str, version: int | None, raw: str) -> None:
         path, text = path_of(uri), sound(raw)
-        self.documents[path] = Document(uri, version, raw, text, _saved(path, text))
+        written = _written(path)
+        self.documents[path] = Document(uri, version, raw, text, text if written is None else written, written)
         self._take(path)
 
     def change(self, uri: str, version: int | None, changes: list[dict[str, Any]]) -> Path:
@@ -62,9 +68,26 @@ class Sources:
     def expect(self, texts: dict[Path, str]) -> None:
         """Tells that the editor is going to give files these texts by one edit."""
         self._expected = texts
+        units = {path: it.unit for path in texts if (it := self._sources.get(path)) and it.unit}
+        self._renaming = {unit: name for path, unit in units.items() if (name := declared_name(texts[path])) and name != unit}
+        self._renamed_by = time.monotonic() + LONGEST_RENAMING
+
+    def take_renamed(self) -> dict[str, str]:
+        """The units that have another name since that edit was made, with this. The file of one may get its other name a moment later."""
+        its = self._renaming if time.monotonic() < self._renamed_by else {}
+        renamed = {unit: name for unit, name in its.items() if unit not in self.owners and name in self.owners}
+        self._renaming = {unit: name for unit, name in its.items() if unit not in renamed}
+        return renamed
 
     def is_expecting(self) -> bool:
         return bool(self._expected)
+
+    def is_unsaved(self, path: Path) -> bool:
+        """Whether the user has changed a document since it had the text of its file."""
+        document = self.documents[path]
+        if document.text != document.written and _written(path) == document.text:
+            document.written = document.text
+        return document.text != document.written
 
     # Files
 
@@ -150,7 +173,7 @@ class Sources:
     def settle(self) -> set[Path]:
         """Finds which units the texts are that have changed, and gives their files."""
         self._expected = {}
-        taken = dict(sorted(self._changed.items(), key=lambda it: it[0].parts))
+        taken = dict(sorted(self._changed.items(), key=lambda it: (it[0] not in self._sources, it[0].parts)))
         self._changed = {}
         freed = [self._place(path, source) for path, source in taken.items()]
         if any(freed):  # Another file may be that unit now.
@@ -191,9 +214,9 @@ class Sources:
         return {unit: text for unit, path in self.owners.items() if (text := self._sources[path].text) is not None}
 
 
-def _saved(path: Path, text: str) -> str:
-    """The text of a file that is opened with a text; that one if it has none."""
+def _written(path: Path) -> str | None:
+    """The text of a file; None if it has none."""
     try:
-        return read_text(path) if stamp_of(path) else text
+        return read_text(path) if stamp_of(path) else None
     except Misuse:
-        return text
+        return None

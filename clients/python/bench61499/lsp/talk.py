@@ -45,7 +45,7 @@ class Talk:
         self._is_new = self._is_resumed = self._is_full = self._is_told = self._is_without_texts = self._has_reads = False
 
     def patience(self) -> float | None:
-        """How long there is nothing to do if no text changes; None if that is until `wake` is called, or for ever."""
+        """How long there is nothing to do if no text changes; None if that is until `wake` is called, or forever."""
         if self._task:
             return 0 if self._task.done() else None
         return None if self._due is None else max(0.0, self._due - time.monotonic())
@@ -157,7 +157,7 @@ class Talk:
             self._complain(f"{error}; save to try again")
 
     def _lose(self, is_new: bool) -> None:
-        """Goes on without a workbench. The next one `is_new` if this one has ended for certain."""
+        """Continues without a workbench. The next one `is_new` if this one has ended for certain."""
         self._is_new |= is_new
         if self._session:
             self._session.close()

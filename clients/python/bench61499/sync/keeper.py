@@ -2,13 +2,14 @@
 from __future__ import annotations
 
 import time
-from collections.abc import Iterable, Mapping
+from collections.abc import Callable, Iterable, Mapping
 from dataclasses import dataclass, replace
 
 from bench61499 import Change, Put, Remove, WorkbenchError
 from bench61499.language.merging import is_marked
 from bench61499.mirror import Version
 from bench61499.sync.deciding import Decision, Step, decide
+from bench61499.sync.editors import Opened
 from bench61499.sync.files import Changed
 from bench61499.sync.incoming import Incoming
 from bench61499.sync.outgoing import Outgoing
@@ -24,6 +25,7 @@ AGAIN = 5.0
 NOT_HERE = 0
 """The revision of a text that was common with another workbench, while this one has had no text of the unit."""
 MARKED = "has the marked lines of a conflict, and is not committed until they are gone"
+LEFT = "is being edited, and left to its editor until it is saved"
 SENT = Step.PUT, Step.REMOVE
 
 
@@ -41,26 +43,44 @@ class Ways:
 
 
 class Keeper:
-    """A folder and a workbench: `look` sees what was saved, and `step` does what can be done now. What was not done is done by a later step."""
+    """A folder and a workbench: `look` sees what was saved, and `step` does what can be done now. What was not done is done by a later step.
 
-    def __init__(self, saved: Saved, store: Store, team: Team, ways: Ways, report: Report):
-        self._saved, self._store, self._team, self._ways, self._report = saved, store, team, ways, report
+    `opened` gives what is open in editors. What is not saved there is left to them, as they commit what is typed.
+    """
+
+    def __init__(self, saved: Saved, store: Store, team: Team, ways: Ways, report: Report, opened: Callable[[], Mapping[str, Opened]] = dict):
+        self._saved, self._store, self._team, self._ways, self._report, self._opened = saved, store, team, ways, report, opened
         self._incoming = Incoming(saved, store, report)
         self._outgoing = Outgoing(store, team, report, self._fail)
         self._units = Units()
         self._dirty: set[str] = set()
+        self._looks = 0
+        self._left: dict[str, int] = {}
+        self._edited: set[str] = set()
+        self._bases: dict[str, str] = {}
+        self._reported: dict[str, str] = {}
+        self._ended: dict[str, str] = {}
         self._failed: set[str] = set()
         self._next_try = 0.0
 
     def look(self, at_once: bool = False) -> None:
         """Sees what was saved, also what may still be being written if it is `at_once`. Raises `Misuse` if the folder can't be read."""
+        self._looks += 1
         if self._saved.look(at_once):
             self._incoming.find_written()
             self._name_files()
             self._dirty |= self._all()
         if not self._ways.is_dry:
-            self._dirty |= set(self._incoming.settle(at_once))
+            self._end(self._incoming.settle(at_once))
             self._incoming.record()
+
+    def _end(self, units: Iterable[str]) -> None:
+        """The user has ended conflicts: what editors have reported before does not count."""
+        for unit in units:
+            self._dirty.add(unit)
+            if base := self._reported.get(unit):
+                self._ended[unit] = base
+            self._bases.pop(unit, None)
 
     def _name_files(self) -> None:
         self._units = self._saved.units(self._store.common)
@@ -80,6 +100,8 @@ class Keeper:
             return False
         if self._team.workbench != self._store.identity:
             self._meet(self._team.workbench)
+        if self._team.units - self._units.files.keys():
+            self.look()  # Where an editor commits what it saves, their files are there already.
         units = self._taken()
         versions = {unit: self._team.version(unit) for unit in sorted(units)}
         if self._team.workbench != self._store.identity:  # It was lost meanwhile, and what was known of it.
@@ -99,9 +121,28 @@ class Keeper:
         if self._failed and time.monotonic() >= self._next_try:
             self._dirty |= self._failed
             self._failed = set()
-        units, self._team.units = self._dirty | self._team.units, set()
-        self._dirty = {unit for unit in units if self._saved.is_unread(self._units.files.get(unit, ""))}
+        units, self._team.units = self._dirty | self._team.units | self._left.keys(), set()
+        self._leave()
+        units -= self._left.keys()
+        self._dirty = {unit for unit in units if self._is_unread(unit)}
         return units - self._units.held.keys() - self._dirty
+
+    def _is_unread(self, unit: str) -> bool:
+        name = self._units.files.get(unit)
+        return self._saved.is_unread(name) if name else self._saved.may_come(unit)
+
+    def _leave(self) -> None:
+        """Finds the units to be left to editors: they are until what was saved there has been seen, which takes two looks."""
+        opened = self._opened()
+        self._reported = {it.unit: it.common for it in opened.values() if it.common is not None}
+        self._bases |= {unit: it for unit, it in self._reported.items() if self._ended.get(unit) != it}
+        unsaved = {name: it.unit for name, it in opened.items() if it.is_unsaved}
+        units = {*unsaved.values(), *(unit for unit, name in self._units.files.items() if name in unsaved)}
+        names = {self._name(unit) for unit in units}
+        for name in sorted(names - self._edited):
+            self._report.say(f"{name}: {LEFT}")
+        self._edited = names
+        self._left = {unit: it for unit, it in self._left.items() if self._looks < it + 2} | dict.fromkeys(units, self._looks)
 
     def _fail(self, unit: str, words: str) -> None:
         """Tells what could not be done; it is tried again."""
@@ -152,7 +193,9 @@ class Keeper:
             self._store.take_back([unit])
 
     def _decide(self, unit: str, version: Version) -> Decision:
-        return decide(self._here(unit), version.text, self._common(unit, version.text))
+        here, common, base = self._here(unit), self._common(unit, version.text), self._bases.pop(unit, None)
+        is_saved = here not in (None, common) and version.text is not None  # By an editor, perhaps, that did not have the text of the file.
+        return decide(here, version.text, base if is_saved and base is not None else common)
 
     def _common(self, unit: str, there: str | None) -> str | None:
         """The text that both had last. Another workbench that lacked the unit has none of it: where somebody has put one since, that one is newer, unless it is known to be older."""

@@ -36,8 +36,8 @@ class Outgoing:
             for it in batch:
                 self._store.agree(it.unit, FileRevision(files[it.unit], number, it.text) if isinstance(it, Put) else None)
         for it in batch:
-            step = Step.PUT if isinstance(it, Put) else Step.REMOVE
-            self._report.did(step, files[it.unit], f": {'revision' if step == Step.PUT else 'commit'} {number}")
+            step, words = (Step.PUT, f"revision {number}") if isinstance(it, Put) else (Step.REMOVE, f"{it.unit}, commit {number}")
+            self._report.did(step, files[it.unit], f": {words}")
         return []
 
     def _refused(self, refusal: Refused, batch: list[Change], files: Mapping[str, str]) -> list[str]:

@@ -109,6 +109,11 @@ class Saved:
         """Whether a file has changed, and is read once it stays the same. Until then it is not to be touched, or it would not stay so."""
         return name in self._unread
 
+    def may_come(self, unit: str) -> bool:
+        """Whether a file that is not read yet may be that of a unit which has none."""
+        file = self.root / f"{unit}.fb"
+        return bool(self._unread) or file.name not in self._files and file.is_file() and not file.is_symlink()
+
     def wrote(self, name: str, text: str | None) -> None:
         """Takes what was written here for the text of the file until it is read; None for a file that was taken away."""
         if text is None:
@@ -162,6 +167,8 @@ class Saved:
         elif not file.declares:
             found.problems[name] = file.problem or f"{self.root / name}: declares no unit, so it is not committed"
         elif other := found.files.get(file.declares) or found.held.get(file.declares):
+            if other in self._gone:
+                return  # The other one may have been moved here, which is known soon.
             found.problems[name] = f"{self.root / name}: declares the unit {file.declares} as {other} does, which counts; this file is not committed"
         else:
             found.files[file.declares] = name

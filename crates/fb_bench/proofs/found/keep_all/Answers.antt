@@ -2,7 +2,7 @@
 use Rattle.std.proofs.{Common.{sym, subst, ◌∙◌, length}, lemmas.Iterator.Adapters.{YieldsList-from_vec}, lemmas.Iterator.Consumers.{YieldsList-turn}}
 use Rattle.std.proofs.lemmas.List.Elements.{All-contains, Contains-get_or}
 use Rattle.std.specs.Prelude.{Contains}
-use Rattle.fb_entries.specs.{Jobs.declared.hints.Hint.{Hint}, Jobs.Hints.{IsNetOf, net_key}}
+use Rattle.fb_entries.specs.{Jobs.declared.kept.hints.Hint.{Hint}, Jobs.Hints.{IsNetOf, net_key}}
 use Rattle.fb_bench.proofs.Marks.{agrees_found}
 use Rattle.fb_bench.proofs.found.keep_all.Goals as goal
 

@@ -1,6 +1,6 @@
 -- One share more.
 use Rattle.std.proofs.{Common.{◌≡◌, List, ◌+◌, ◌++◌, ◌∷◌, [], take, map, ap, sym, ◌∙◌, arith, rules}, lemmas.Grind.{common_steps}, lemmas.List.{map-append}}
-use Rattle.fb_entries.specs.Jobs.declared.hints.Hint.{Hint}
+use Rattle.fb_entries.specs.Jobs.declared.kept.hints.Hint.{Hint}
 use Rattle.fb_bench.specs.Founds.{said}
 use Rattle.fb_bench.proofs.found.shares_of.Goals as goal
 

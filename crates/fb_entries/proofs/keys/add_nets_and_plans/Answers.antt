@@ -1,6 +1,6 @@
 -- One unit more, which has a net and a plan or not.
 use Rattle.std.proofs.{Common.{◌≡◌, ◌+◌, ◌++◌, ◌∷◌, [], ap, ◌∙◌, arith, cond, sym, take, append_assoc}, lemmas.Grind.{common_steps}}
-use Rattle.fb_jobs.specs.declared.key.Kind.TheVariants as kind
+use Rattle.fb_jobs.specs.declared.keys.key.Kind.TheVariants as kind
 use Rattle.fb_entries.proofs.Present.{present, present_more, the_key}
 use Rattle.fb_entries.proofs.keys.add_nets_and_plans.Goals as goal
 

@@ -1,5 +1,5 @@
 use Rattle.std.proofs.Common.{◌≡◌, ◌++◌, take}
-use Rattle.fb_jobs.specs.declared.key.Kind.TheVariants as kind
+use Rattle.fb_jobs.specs.declared.keys.key.Kind.TheVariants as kind
 use Rattle.fb_entries.proofs.Present.{present}
 use Rattle.fb_entries.proofs.keys.add_nets_and_plans.Given as goal
 

@@ -1,6 +1,6 @@
 -- One unit more, which is present or not.
 use Rattle.std.proofs.{Common.{◌≡◌, ◌+◌, ◌++◌, ◌∷◌, [], ap, ◌∙◌, arith, cond, sym, take}, lemmas.Grind.{common_steps}}
-use Rattle.fb_jobs.specs.declared.key.Kind.TheVariants as kind
+use Rattle.fb_jobs.specs.declared.keys.key.Kind.TheVariants as kind
 use Rattle.fb_entries.proofs.Present.{present_more, the_key}
 use Rattle.fb_entries.proofs.keys.present_faults.Goals as goal
 

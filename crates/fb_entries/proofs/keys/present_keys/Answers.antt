@@ -1,6 +1,6 @@
 -- The keys of each kind, one kind after the other.
 use Rattle.std.proofs.Common.{◌≡◌, ◌++◌, ap, ◌∙◌}
-use Rattle.fb_jobs.specs.declared.key.Kind.TheVariants as kind
+use Rattle.fb_jobs.specs.declared.keys.key.Kind.TheVariants as kind
 use Rattle.fb_entries.proofs.Present.{all_present, present}
 use Rattle.fb_entries.proofs.keys.present_keys.Goals as goal
 

@@ -1,6 +1,6 @@
 use Rattle.std.proofs.Common.{◌≡◌, take, false, cond}
 use Rattle.std.specs.BTreeSet as set
-use Rattle.fb_jobs.specs.{declared.key.Key.{Key}, KeyOrder.{key_cmp}}
+use Rattle.fb_jobs.specs.{declared.keys.key.Key.{Key}, KeyOrder.{key_cmp}}
 use Rattle.fb_entries.specs.Marking.{is_of}
 use Rattle.fb_entries.proofs.renewal.leave_all.Given as goal
 

@@ -1,5 +1,5 @@
 use Rattle.std.proofs.Common.{◌≡◌, take}
-use Rattle.fb_jobs.specs.declared.key.Key.{Key}
+use Rattle.fb_jobs.specs.declared.keys.key.Key.{Key}
 use Rattle.fb_entries.specs.Keyed.{entry_in}
 use Rattle.fb_entries.specs.Marking.{is_of, waiting_if}
 use Rattle.fb_entries.proofs.renewal.renew_all.Given as goal

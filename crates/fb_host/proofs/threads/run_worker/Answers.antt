@@ -7,5 +7,5 @@ loop-preserved g c = leads_on _ _ _ c.loop.invariant (leads_adds _ _ _ _ c.keep_
 pub loop-preserved-in-TurnsOver : goal.loop-preserved-in-TurnsOver
 loop-preserved-in-TurnsOver g c = leads_on _ _ _ c.loop.invariant (leads_adds _ _ _ _ c.keep_working-end.ensures)
 
-pub returns-in-Stopped : goal.returns-in-Stopped
-returns-in-Stopped g c = leads_on _ _ _ c.loop.invariant (leads_adds _ _ _ _ c.keep_working-end.ensures)
+pub returns-in-Stopped-clause-calls : goal.returns-in-Stopped-clause-calls
+returns-in-Stopped-clause-calls g c = leads_on _ _ _ c.loop.invariant (leads_adds _ _ _ _ c.keep_working-end.ensures)

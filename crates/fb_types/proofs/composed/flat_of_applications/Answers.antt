@@ -1,6 +1,6 @@
 -- What is composed of the applications, joined.
 use Rattle.std.proofs.{Common.{List, subst}, lemmas.Result.{IfOk-weaker}}
-use Rattle.fb_network.specs.{SystemFlat.{IsSystemFlat}, declared.application.FlatApplication.{FlatApplication}}
+use Rattle.fb_network.specs.{SystemFlat.{IsSystemFlat}, declared.flat.application.FlatApplication.{FlatApplication}}
 use Rattle.fb_types.proofs.composed.flat_of_applications.Goals as goal
 
 pub returns : goal.returns

@@ -1,6 +1,6 @@
 -- One application further.
 use Rattle.std.proofs.{Common.{List, [], ◌∷◌, ◌++◌, sym, subst, take}, lemmas.List.{take_all}}
-use Rattle.fb_network.specs.declared.application.FlatApplication.{FlatApplication}
+use Rattle.fb_network.specs.declared.flat.application.FlatApplication.{FlatApplication}
 use Rattle.fb_types.specs.{declared.systems.Application.{Application}, Units.{AreFlatApplications, NoApplication}}
 use Rattle.fb_types.proofs.FoundUnits.{applications_further, flats-push}
 use Rattle.fb_types.proofs.composed.flats_of_applications.Goals as goal

@@ -1,0 +1,183 @@
+"""An editor and a `sync` in one folder, beside a colleague: what is not saved is left to the editor, and what is saved undoes nothing that others have done."""
+from __future__ import annotations
+
+import signal
+import unittest
+from pathlib import Path
+
+from editing import Editor
+from support import InFolder, run, until
+from syncing import TEXT, Host, Syncing, team_texts
+
+from bench61499 import Put, Remove, Session
+from bench61499.lsp.choices import PUT
+from bench61499.sync.editors import Opened, Reporter, opened_in
+
+PATIENCE = 60.0
+CAN = {"workspace": {"applyEdit": True, "workspaceEdit": {"documentChanges": True}}}
+A = TEXT.format(name="A")
+CHANGED = r"A was changed by session \d+ \(commit \d+\) \d+ s ago"
+
+
+class OneFolderTest(InFolder):
+    def setUp(self) -> None:
+        super().setUp()
+        self.host = Host("--open")
+        self.addCleanup(self.host.end)
+        self.colleague: Session = self.enterContext(self.host.session())
+        self.colleague.commit([Put("A", 0, A)])
+        self.kept = Syncing(self.folder / "one", self.host.port)
+        self.kept.start()
+        self.addCleanup(lambda: self.kept.is_running() and self.kept.end())
+        until(lambda: "from now on" in self.kept.said(), PATIENCE)
+        self.file = self.kept.folder / "A.fb"
+        self.editor = Editor("--connect", f":{self.host.port}")
+        self.addCleanup(self.editor.process.kill)
+        self.editor.start(self.kept.folder, CAN)
+        self.editor.open(self.file)
+        self.editor.await_codes(A=[])
+        self.version = 1
+
+    def type(self, text: str, file: Path | None = None) -> None:
+        self.version += 1
+        self.editor.change(file or self.file, text, self.version)
+
+    def save(self, text: str, file: Path | None = None) -> None:
+        """As an editor that writes over its file."""
+        (file or self.file).write_text(text)
+        self.editor.save(file or self.file)
+
+    def team(self) -> dict[str, str]:
+        return team_texts(self.colleague)
+
+    def await_team(self, **texts: str) -> None:
+        until(lambda: self.team() == texts, PATIENCE)
+
+    def puts(self, unit: str, text: str) -> None:
+        self.colleague.commit([Put(unit, self.colleague.text(unit).revision, text)])
+
+    def await_folder(self, **texts: str) -> None:
+        """Until the workbench and the folder have these texts, by the units that their files are named after."""
+        self.await_team(**texts)
+        until(lambda: self.kept.files() == {f"{unit}.fb": text for unit, text in texts.items()}, PATIENCE)
+
+    def test_a_colleague_changes_what_is_being_edited(self) -> None:
+        """The file stays as it is until it is saved, also where its editor has it otherwise; then it has the changes of both."""
+        self.type(f"// one\n{A}")
+        self.await_team(A=f"// one\n{A}")
+        until(lambda: "A.fb: is being edited, and left to its editor until it is saved" in self.kept.said(), PATIENCE)
+        self.puts("A", f"// one\n{A}// colleague\n")
+        self.editor.await_told("A.fb", (3, CHANGED))
+        self.type(f"// one and more\n{A}")
+        self.editor.await_told("A.fb", (3, CHANGED))
+        self.assertEqual(self.file.read_text(), A)
+        self.save(f"// one and more\n{A}")
+        self.await_folder(A=f"// one and more\n{A}// colleague\n")
+        self.assertEqual(self.kept.conflicts(), [])
+
+    def test_an_old_text_that_is_saved_undoes_nothing(self) -> None:
+        """The editor does not read files again: what it saves comes from the text that it has."""
+        self.puts("A", f"{A}// colleague\n")
+        until(lambda: self.file.read_text() == f"{A}// colleague\n", PATIENCE)
+        self.editor.await_told("A.fb", (3, CHANGED))
+        self.save(A)
+        until(lambda: self.kept.said().count("A.fb: written") == 3, PATIENCE)
+        self.await_folder(A=f"{A}// colleague\n")
+
+    def test_both_change_the_same_line(self) -> None:
+        """That is a conflict, and it is over when its user says so."""
+        self.puts("A", f"// colleague\n{A}")
+        self.editor.await_told("A.fb", (3, CHANGED))
+        self.type(f"// one\n{A}")
+        self.save(f"// one\n{A}")
+        until(self.kept.conflicts, PATIENCE)
+        self.assertEqual(self.team(), {"A": f"// colleague\n{A}"})
+        (beside,) = self.kept.conflicts()
+        self.save(f"// both\n{A}")
+        beside.unlink()
+        self.await_folder(A=f"// both\n{A}")
+        self.assertEqual(self.kept.conflicts(), [])
+
+    def test_mine_is_put_by_the_editor(self) -> None:
+        self.puts("A", f"// colleague\n{A}")
+        self.editor.await_told("A.fb", (3, CHANGED))
+        self.type(f"// one\n{A}")
+        self.editor.request("workspace/executeCommand", command=PUT, arguments=[self.file.as_uri()])
+        self.await_team(A=f"// one\n{A}")
+        self.save(f"// one\n{A}")
+        self.await_folder(A=f"// one\n{A}")
+
+    def test_a_new_unit_and_another_name(self) -> None:
+        """Each has one file, the one that its user saves."""
+        self.type(A.replace(" A\n", " B\n"))
+        until(lambda: "B" in self.team(), PATIENCE)
+        self.save(A.replace(" A\n", " B\n"))
+        self.await_team(B=TEXT.format(name="B"))
+        new = self.kept.folder / "new.fb"
+        self.editor.open(new, TEXT.format(name="C"))
+        until(lambda: "C" in self.team(), PATIENCE)
+        self.save(TEXT.format(name="C"), new)
+        self.colleague.commit([Put("D", 0, TEXT.format(name="D"))])
+        until((self.kept.folder / "D.fb").exists, PATIENCE)
+        self.assertEqual({file: text.split()[1] for file, text in self.kept.files().items()}, {"A.fb": "B", "new.fb": "C", "D.fb": "D"})
+
+    def test_a_unit_that_a_colleague_removes(self) -> None:
+        self.type(f"// one\n{A}")
+        self.await_team(A=f"// one\n{A}")
+        self.colleague.commit([Remove("A", self.colleague.text("A").revision)])
+        self.editor.await_told("A.fb", (3, CHANGED.replace("changed", "removed")))
+        self.save(f"// one\n{A}")
+        self.await_folder(A=f"// one\n{A}")
+
+    def test_an_editor_that_ends_without_saving(self) -> None:
+        self.type(f"// one\n{A}")
+        self.await_team(A=f"// one\n{A}")
+        self.editor.process.kill()
+        self.await_folder(A=f"// one\n{A}")
+
+    def test_once_and_again(self) -> None:
+        """Who only pulls gets all, and a `sync` that begins later knows what is open."""
+        self.assertEqual(self.kept.end(signal.SIGINT), 130)
+        self.type(f"// one\n{A}")
+        self.await_team(A=f"// one\n{A}")
+        self.kept.start()
+        until(lambda: "is being edited" in self.kept.said(), PATIENCE)
+        self.assertEqual(self.file.read_text(), A)
+        self.assertEqual(self.kept.end(signal.SIGINT), 130)
+        self.assertEqual(run("sync", self.kept.folder, "--connect", f":{self.host.port}", "--pull").returncode, 0)
+        self.assertEqual(self.file.read_text(), f"// one\n{A}")
+
+
+class ReporterTest(InFolder):
+    def setUp(self) -> None:
+        super().setUp()
+        self.state = self.folder / ".bench61499"
+        self.state.mkdir()
+        (self.state / "state.sqlite").touch()
+
+    def test_what_is_reported(self) -> None:
+        reporter, it = Reporter(), Opened("A", True, "text")
+        reporter.report({self.folder / "inner" / "A.fb": it, Path("/elsewhere/B.fb"): it})
+        self.assertEqual(opened_in(self.state), {"inner/A.fb": it})
+        reporter.report({self.folder / "A.fb": Opened("A", False, None)})
+        self.assertEqual(opened_in(self.state), {"A.fb": Opened("A", False, None)})
+        reporter.close()
+        self.assertEqual((opened_in(self.state), list((self.state / "editors").iterdir())), ({}, []))
+
+    def test_what_others_have_left_there(self) -> None:
+        """Only what a running server reports counts, and no link is followed."""
+        (self.state / "editors").mkdir()
+        left = self.state / "editors" / "left"
+        left.write_text('{"A.fb": ["A", true, null]}\n')
+        (self.state / "editors" / "link").symlink_to(self.write("B.fb", "text"))
+        self.assertEqual((opened_in(self.state), left.exists()), ({}, False))
+
+    def test_a_link_leads_nowhere(self) -> None:
+        (self.folder / "other").mkdir()
+        (self.state / "editors").symlink_to(self.folder / "other")
+        Reporter().report({self.folder / "A.fb": Opened("A", True, None)})
+        self.assertEqual(list((self.folder / "other").iterdir()), [])
+
+
+if __name__ == "__main__":
+    unittest.main()

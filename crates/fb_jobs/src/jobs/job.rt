@@ -1,0 +1,261 @@
+//! Jobs.
+//! A job gets no earlier value of a key as a hint: `run` gives the previous value of its own key only if all that the key reads leaves it
+//! unchanged, or if the new value equals it.
+ghost use Rattle.std.specs.{Prelude.{◌≡◌, true, IfOk, IfErr, IfSome, All}, Option.{option_map}, List.Sorted.{IsStrictlySortedBy}};
+ghost use Rattle.std.specs.FinMap as map;
+ghost use Rattle.fb_text.specs.Order.{name_cmp};
+ghost use Rattle.fb_deploy.specs.{Library.Texts.{text_at, sources_of}, Library.Place.{IsAt, IsGapFor}};
+ghost use Rattle.fb_jobs.specs.{Finished.{plain_job}, Hints.{AreHints}, Cache.{AreKept}, Keys.{has_key, scratch}, Cached.{IsCached}};
+ghost use Rattle.fb_jobs.specs.{Reads.{IsRight, read_names, read_texts, reads_for}, Values.{all_seen, finding_of, IsOwn}, Work.{IsWork}};
+
+use crate::jobs::computed::{Worked, work_of};
+use crate::jobs::result::Finished;
+use crate::kept::cache::Cache;
+use crate::kept::cached::{Cached, CachedNets, flagged_names, nets_of, unless};
+use crate::kept::hints::Hint;
+use crate::kept::reuse::{are_still_read, is_whole_value};
+use crate::keys::key::Key;
+use crate::keys::read::Read;
+use crate::keys::reads::{reads_anew, reads_of};
+use crate::keys::texts::TextReads;
+use crate::values::derivation::Derivation;
+use crate::values::value::Value;
+use fb_deploy::library::{Library, View};
+use fb_deploy::parse::Source;
+use fb_text::Name;
+use std::alloc::{AllocError, Global};
+use std::marker::Model;
+use std::sync::Arc;
+
+/// A key with all that its value depends on. The reads are one list, which the result shares; their texts are another, which
+/// the history keeps.
+pub struct Job {
+    key: Key,
+    reads: Arc<Vec<Read>>,
+    texts: Arc<TextReads>,
+    cached: Cached,
+    // a value that the key had once, with the reads that gave it, to be shared by a result that equals it
+    previous: Option<Derivation>,
+}
+
+impl Drop for Job {
+    fn drop(self) {
+        let Self {
+            key: _,
+            reads: _,
+            texts: _,
+            cached: _,
+            previous: _,
+        } = self;
+    }
+}
+
+impl Model for Job {
+    ghost use Rattle.fb_jobs.specs.Reads.{PlainJob};
+
+    ghost Value = { PlainJob };
+
+    ghost use Rattle.fb_jobs.specs.Finished.{plain_job, IsGiven};
+
+    ghost view = { λ it. plain_job it.key it.reads.value.items };
+
+    ghost invariant = { λ it. IsGiven it.key it.reads.value.items it.texts.value it.cached };
+}
+
+impl Job {
+    /// Reads for the key what it needs, sharing the sources, and passes the nets of these other subapplications, which are not
+    /// computed again. A key for faults takes none.
+    pub fn make(
+        alloc: Global,
+        library: &Library,
+        key: Key,
+        hints: Vec<Hint>,
+    ) -> Result<Job, AllocError>
+        requires has { has_key library.now key ≡ true }
+        requires hints { AreHints library.now key hints.items }
+        ensures { IfOk result
+            (λ job. job ≡ record { key = key; reads = reads_for library.now key }) }
+    {
+        // For the proof: the key is named before the call gets it.
+        let wanted = key;
+        let (reads, texts) = reads_anew(alloc, library, wanted)?;
+        let cached = Cached::of_hints(alloc, hints);
+        Job::of_reads(alloc, key, reads, texts, cached, None)
+    }
+
+    /// A job with all that is kept: as hints the nets of other subapplications among the reads; the net of the unit itself, if it is
+    /// kept, was found by a job for another key or is blocked by units whose faults are kept; which of the reads are without faults; and
+    /// the value that the key had before.
+    pub fn for_kept<K: Cache>(
+        alloc: Global,
+        library: &Library,
+        key: Key,
+        kept: &K,
+    ) -> Result<Job, AllocError>
+        requires has { has_key library.now key ≡ true }
+        requires kept { AreKept library.now (K.kept kept.now) }
+        requires found { AreKept library.now (K.found kept.now) }
+        ensures { IfOk result
+            (λ job. job ≡ record { key = key; reads = reads_for library.now key }) }
+    {
+        // For the proof: the key is named before the call gets it.
+        let wanted = key;
+        let previous = match kept.previous(&key) {
+            Some(derivation) => Some(derivation.share()?),
+            None => None,
+        };
+        let (reads, texts) = reads_of(alloc, library, wanted, &previous)?;
+        let cached = Cached::of_kept(alloc, kept, &key, &reads, previous.is_none())?;
+        Job::of_reads(alloc, key, reads, texts, cached, previous)
+    }
+
+    fn of_reads(
+        alloc: Global,
+        key: Key,
+        reads: Vec<Read>,
+        texts: TextReads,
+        cached: Cached,
+        previous: Option<Derivation>,
+    ) -> Result<Job, AllocError>
+        requires right { IsRight (plain_job key reads.items) }
+        requires own { All IsOwn reads.items }
+        requires texts { texts ≡ all_seen reads.items }
+        requires known { IsCached (all_seen reads.items) key cached }
+        ensures { IfOk result (λ job. job ≡ plain_job key reads.items) }
+    {
+        let texts = Arc::new(alloc, texts)?;
+        let reads = Arc::new(alloc, reads)?;
+        Ok(Job {
+            key,
+            reads,
+            texts,
+            cached,
+            previous,
+        })
+    }
+
+    pub fn key(&self) -> Key
+        ensures { result ≡ self.now.key }
+    {
+        self.key
+    }
+
+    pub fn reads(&self) -> &[Read]
+        ensures same { all_seen result.now ≡ self.now.reads }
+        ensures right { IsRight self.now }
+        ensures own { All IsOwn result.now }
+    {
+        &self.reads
+    }
+
+    /// The texts of the reads, to be kept.
+    pub fn texts(&self) -> &Arc<TextReads>
+        ensures { result.now.value ≡ self.now.reads }
+    {
+        &self.texts
+    }
+
+    /// The nets of other subapplications that are passed.
+    pub fn hints(&self) -> &[Hint]
+        ensures { AreHints (read_texts self.now.reads) self.now.key result.now }
+    {
+        &self.cached.hints
+    }
+
+    /// The value that the key had before, if what is read leaves it unchanged: a net that is flat or too large, or a plan of such a net. The text of the
+    /// unit must be the same, and all that it rests on without faults, with the same interfaces and mentions.
+    fn reusable(&self, alloc: Global) -> Result<Option<&Arc<Value>>, AllocError>
+        ensures { IfOk result (λ left. IfSome left
+            (λ value. finding_of value.now.value ≡ scratch (read_texts self.now.reads) self.now.key)) }
+    {
+        let Some(derivation) = &self.previous else {
+            return Ok(None);
+        };
+        let value = derivation.value();
+        if derivation.key() != self.key || !is_whole_value(value) {
+            return Ok(None);
+        }
+        let before = derivation.reads();
+        let faultless = &self.cached.faultless;
+        if are_still_read(alloc, &self.key.unit, faultless, before, &self.reads)? {
+            return Ok(Some(value));
+        }
+        Ok(None)
+    }
+
+    /// Computes the value that the reads give, with what is passed.
+    fn computed(&self, alloc: Global) -> Result<Worked, AllocError>
+        ensures { IfOk result
+            (IsWork self.now.key.kind (sources_of (read_texts self.now.reads)) self.now.key.unit) }
+    {
+        let own = &self.cached.own;
+        let hints = unless(own.is_some(), &self.cached.hints);
+        let flags = unless(own.is_some(), &self.cached.faultless);
+        let nets = nets_of(alloc, hints)?;
+        let faultless = flagged_names(alloc, &self.reads, flags)?;
+        let known = CachedNets {
+            nets: &nets,
+            faultless: &faultless,
+        };
+        work_of(alloc, self, self.key, &known, own, &self.previous)
+    }
+
+    fn worked(&self, alloc: Global) -> Result<Worked, AllocError>
+        ensures { IfOk result
+            (IsWork self.now.key.kind (sources_of (read_texts self.now.reads)) self.now.key.unit) }
+    {
+        match self.reusable(alloc)? {
+            Some(value) => Ok(Worked {
+                value: value.clone()?,
+                found: Vec::new(alloc),
+            }),
+            None => self.computed(alloc),
+        }
+    }
+
+    /// Computes the value that the reads give. What is passed is not computed again, nor is a net or a plan that what is read leaves unchanged.
+    pub fn run(&self, alloc: Global) -> Result<Finished, AllocError>
+        ensures { IfOk result (λ finished. finished ≡ self.now) }
+    {
+        let work = self.worked(alloc)?;
+        let reads = self.reads.clone()?;
+        let texts = self.texts.clone()?;
+        Ok(Finished::of_reads(self.key, reads, texts, work))
+    }
+
+    /// The place of a name among the reads, or the one at which it would be inserted.
+    fn place(&self, name: &Name) -> Result<usize, usize>
+        ensures found { IfOk result (IsAt (read_names self.now.reads) name.now) }
+        ensures absent { IfErr result (IsGapFor (read_names self.now.reads) name.now) }
+    {
+        self.reads
+            .binary_search_by(|read| read.name.as_str().cmp(name.as_str()))
+    }
+
+    /// The source that was read under a name.
+    fn find(&self, name: &Name) -> Option<&Source>
+        ensures text { option_map (λ it. it.now.text) result
+            ≡ text_at (read_texts self.now.reads) name.now }
+        ensures own { IfSome result (λ it. it.now.unit ≡ name.now) }
+    {
+        match self.place(name) {
+            Ok(at) => match &self.reads[at].source {
+                Some(source) => Some(source),
+                None => None,
+            },
+            Err(_) => None,
+        }
+    }
+}
+
+impl View for Job {
+    ghost use Rattle.fb_deploy.specs.Library.Texts.{sources_of};
+    ghost use Rattle.fb_jobs.specs.Reads.{read_texts};
+
+    ghost sources = { λ job. sources_of (read_texts job.reads) };
+
+    #[tactic(auto, using(crate::proofs::Sources::get_source))]
+    fn get(&self, name: &Name) -> Option<&Source> {
+        self.find(name)
+    }
+}

@@ -1,6 +1,0 @@
-use Rattle.fb_messages.specs.DeployReplies.{resource_item}
-use Rattle.fb_messages.proofs.Entries.{WillBeList}
-use Rattle.fb_messages.proofs.deploy_reply.write_resources.Given as goal
-
-abbrev pub invariant-loop-place : goal.invariant-loop-place
-invariant-loop-place l = WillBeList resource_item l.plan.resources l.place l.fn.out l.out

@@ -1,6 +1,0 @@
-use Rattle.fb_messages.specs.NetReplies.{block_item}
-use Rattle.fb_messages.proofs.Entries.{WillBeList}
-use Rattle.fb_messages.proofs.net_reply.write_blocks.Given as goal
-
-abbrev pub invariant-loop-place : goal.invariant-loop-place
-invariant-loop-place l = WillBeList block_item l.flat.blocks l.place l.fn.out l.out

@@ -1,6 +1,0 @@
-use Rattle.fb_messages.specs.NetReplies.{border_item}
-use Rattle.fb_messages.proofs.Entries.{WillBeList}
-use Rattle.fb_messages.proofs.net_reply.write_borders.Given as goal
-
-abbrev pub invariant-loop-place : goal.invariant-loop-place
-invariant-loop-place l = WillBeList border_item l.flat.borders l.place l.fn.out l.out

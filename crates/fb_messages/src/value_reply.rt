@@ -1,0 +1,214 @@
+//! The values of entries, as JSON.
+#![tactic(auto, using(crate::proofs::Entries::entries))]
+
+ghost use Rattle.std.specs.Prelude.{◌≡◌, codes};
+ghost use Rattle.serde_json.specs.Data.{string};
+ghost use Rattle.fb_jobs.specs.{Deploy.Deploy.{plain_deploy}, Flatten.Net.{plain_net}, Values.{finding_of}};
+ghost use Rattle.fb_messages.specs.Replies.{block_item, border_item, deploy_said, fault_item, flat_said, link_item, list_of, misplaced_item, net_said, plan_said, resource_item, sort_text, value_said};
+ghost use Rattle.fb_messages.specs.Tokens.{IsMember, IsSaid};
+
+use crate::to_json::{ToJson, write_one, write_three, write_two};
+use fb_jobs::Value;
+use fb_jobs::deploy::{Deploy, Plan, ResourcePlan};
+use fb_jobs::flatten::Net;
+use fb_jobs::iface::Fault;
+use fb_jobs::placing::Misplaced;
+use fb_network::Flat;
+use fb_tree::Sort;
+use json::Writer;
+use std::alloc::AllocError;
+
+impl ToJson for Fault {
+    ghost said = { fault_item };
+
+    fn write(&self, out: &mut Writer) -> Result<(), AllocError> {
+        out.begin_array()?;
+        out.string(self.code.as_str())?;
+        out.u64(self.span.start as u64)?;
+        out.u64(self.span.end as u64)?;
+        out.end_array()
+    }
+}
+
+fn sort_text(sort: Sort) -> &'static str
+    ensures { result.now ≡ sort_text sort }
+{
+    match sort {
+        Sort::Event => "event",
+        Sort::Data => "data",
+        Sort::Adapter => "adapter",
+    }
+}
+
+/// The blocks, each with the name of its type. One text is used for all paths.
+fn write_blocks(out: &mut Writer, flat: &Flat) -> Result<(), AllocError>
+    ensures { IsSaid result out.old out.new (list_of block_item flat.now.blocks) }
+{
+    let mut path = String::new(flat.allocator());
+    out.begin_array()?;
+    for place in 0..flat.block_count() {
+        let type_name = flat.put_block(place, &mut path)?;
+        write_two(out, path.as_str(), type_name.as_str())?;
+    }
+    out.end_array()
+}
+
+/// The borders. One text is used for all places.
+fn write_borders(out: &mut Writer, flat: &Flat) -> Result<(), AllocError>
+    ensures { IsSaid result out.old out.new (list_of border_item flat.now.borders) }
+{
+    let mut at = String::new(flat.allocator());
+    out.begin_array()?;
+    for place in 0..flat.border_count() {
+        let (sort, port) = flat.put_border(place, &mut at)?;
+        write_three(out, sort_text(sort), port.as_str(), at.as_str())?;
+    }
+    out.end_array()
+}
+
+/// The links. Two texts are used for all places.
+fn write_links(out: &mut Writer, flat: &Flat) -> Result<(), AllocError>
+    ensures { IsSaid result out.old out.new (list_of link_item flat.now.links) }
+{
+    let mut from = String::new(flat.allocator());
+    let mut to = String::new(flat.allocator());
+    out.begin_array()?;
+    for place in 0..flat.link_count() {
+        let sort = flat.put_link(place, &mut from, &mut to)?;
+        write_three(out, sort_text(sort), from.as_str(), to.as_str())?;
+    }
+    out.end_array()
+}
+
+fn write_flat(out: &mut Writer, flat: &Flat) -> Result<(), AllocError>
+    ensures { IsSaid result out.old out.new (flat_said flat.now) }
+{
+    out.begin_object()?;
+    out.key("blocks")?;
+    write_blocks(out, flat)?;
+    out.key("borders")?;
+    write_borders(out, flat)?;
+    out.key("links")?;
+    write_links(out, flat)?;
+    out.end_object()
+}
+
+impl ToJson for Net {
+    ghost said = { λ net. net_said (plain_net net) };
+
+    fn write(&self, out: &mut Writer) -> Result<(), AllocError> {
+        match self {
+            Net::Blocked(names) => write_one(out, "blocked", names),
+            Net::Recursive(names) => write_one(out, "recursive", names),
+            Net::TooLarge => out.string("too_large"),
+            Net::Flat(flat) => write_flat(out, flat),
+        }
+    }
+}
+
+impl ToJson for Misplaced {
+    ghost said = { misplaced_item };
+
+    fn write(&self, out: &mut Writer) -> Result<(), AllocError> {
+        match self {
+            Misplaced::Unmapped(path) => write_two(out, "UNMAPPED", path.as_str()),
+            Misplaced::NoSuchBlock(path) => write_two(out, "NO_SUCH_BLOCK", path.as_str()),
+        }
+    }
+}
+
+/// The links between resources. Two texts are used for all places.
+fn write_cuts(out: &mut Writer, plan: &Plan) -> Result<(), AllocError>
+    ensures { IsSaid result out.old out.new (list_of link_item plan.now.cuts) }
+{
+    let mut from = String::new(plan.allocator());
+    let mut to = String::new(plan.allocator());
+    out.begin_array()?;
+    for place in 0..plan.cut_count() {
+        let sort = plan.put_cut(place, &mut from, &mut to)?;
+        write_three(out, sort_text(sort), from.as_str(), to.as_str())?;
+    }
+    out.end_array()
+}
+
+fn write_commands(
+    out: &mut Writer,
+    resource: &ResourcePlan<'_>,
+    text: &mut String,
+) -> Result<(), AllocError>
+    ensures { IsSaid result out.old out.new (list_of string resource.now.commands) }
+{
+    out.begin_array()?;
+    for place in 0..resource.command_count() {
+        resource.put_command(place, text)?;
+        out.string(text.as_str())?;
+    }
+    out.end_array()
+}
+
+fn write_resource(
+    out: &mut Writer,
+    resource: &ResourcePlan<'_>,
+    text: &mut String,
+) -> Result<(), AllocError>
+    ensures { IsSaid result out.old out.new (resource_item resource.now) }
+{
+    out.begin_array()?;
+    out.string(resource.name().as_str())?;
+    write_commands(out, resource, text)?;
+    out.end_array()
+}
+
+/// The resources. One text is used for all commands.
+fn write_resources(out: &mut Writer, plan: &Plan) -> Result<(), AllocError>
+    ensures { IsSaid result out.old out.new (list_of resource_item plan.now.resources) }
+{
+    let mut text = String::new(plan.allocator());
+    out.begin_array()?;
+    for place in 0..plan.resource_count() {
+        write_resource(out, &plan.resource(place), &mut text)?;
+    }
+    out.end_array()
+}
+
+fn write_resources_member(out: &mut Writer, plan: &Plan) -> Result<(), AllocError>
+    ensures { IsMember result out.old out.new (codes "resources")
+        (list_of resource_item plan.now.resources) }
+{
+    out.key("resources")?;
+    write_resources(out, plan)
+}
+
+fn write_plan(out: &mut Writer, plan: &Plan) -> Result<(), AllocError>
+    ensures { IsSaid result out.old out.new (plan_said plan.now.cuts plan.now.resources) }
+{
+    out.begin_object()?;
+    out.key("cuts")?;
+    write_cuts(out, plan)?;
+    write_resources_member(out, plan)?;
+    out.end_object()
+}
+
+impl ToJson for Deploy {
+    ghost said = { λ deploy. deploy_said (plain_deploy deploy) };
+
+    fn write(&self, out: &mut Writer) -> Result<(), AllocError> {
+        match self {
+            Deploy::Stopped(net) => write_one(out, "stopped", net),
+            Deploy::Faulty(found) => write_one(out, "faulty", found),
+            Deploy::Plan(plan) => write_plan(out, plan),
+        }
+    }
+}
+
+impl ToJson for Value {
+    ghost said = { λ value. value_said (finding_of value) };
+
+    fn write(&self, out: &mut Writer) -> Result<(), AllocError> {
+        match self {
+            Value::Faults(faults) => write_one(out, "faults", faults),
+            Value::Net(net) => write_one(out, "net", net),
+            Value::Deploy(deploy) => write_one(out, "deploy", deploy),
+        }
+    }
+}
