@@ -126,7 +126,7 @@ def leave_silently(peer):
 
 
 def fill(peer, is_over):
-    """Asks and takes no reply, until the host takes no more."""
+    """Asks and takes no reply, until the host takes no more for a second."""
     peer.settimeout(1)
     with contextlib.suppress(TimeoutError):
         while not is_over.is_set():
@@ -214,15 +214,16 @@ class Stayers:
                 self.is_over.wait(TOO_LONG)
 
     def takes_bytes(self, peer):
-        """Takes a byte of the replies each second, until the host ends it."""
+        """Takes a byte of the replies each second and asks for more, until the host ends it."""
         with contextlib.suppress(ConnectionError):
             if not is_proved(peer):
                 return
-            fill(peer, self.is_over)
             for _ in range(MOST_REPLY + TOO_LONG):
-                # (what has come before a reset can still be read)
-                if self.is_over.wait(1) or peer.getsockopt(socket.SOL_SOCKET, socket.SO_ERROR) or not peer.recv(1):
+                fill(peer, self.is_over)
+                if self.is_over.is_set():
                     return
+                with contextlib.suppress(TimeoutError):
+                    peer.recv(1)
             wrong("a peer that takes a byte each second has kept its seat")
 
     def is_gone(self, peer):
