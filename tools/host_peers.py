@@ -36,6 +36,7 @@ DEEP = {"DEEP": f"FUNCTION_BLOCK DEEP VAR V : BOOL; END_VAR {DEEP_ALGORITHM} END
 TCP_REPAIR = 19
 TAKE = b'{"op":"take"}\n'
 ASK = b'{"op":"ask","kind":"faults","unit":"U0"}\n'
+LIST = b'{"op":"units"}\n'
 
 
 def is_proved(peer):
@@ -126,11 +127,11 @@ def leave_silently(peer):
 
 
 def fill(peer, is_over):
-    """Asks and takes no reply, until the host takes no more for a second."""
+    """Asks for what has a long reply and takes none, until the host takes no more for a second."""
     peer.settimeout(1)
     with contextlib.suppress(TimeoutError):
         while not is_over.is_set():
-            peer.sendall(ASK * 100)
+            peer.sendall(LIST * 100)
 
 
 class Guest:
