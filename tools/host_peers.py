@@ -127,7 +127,7 @@ def leave_silently(peer):
 
 
 def fill(peer, is_over):
-    """Asks for what has a long reply and takes none, until the host takes no more for a second."""
+    """Asks for what has a long reply and takes none, until the host takes nothing for a second."""
     peer.settimeout(1)
     with contextlib.suppress(TimeoutError):
         while not is_over.is_set():
