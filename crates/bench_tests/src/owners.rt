@@ -153,7 +153,11 @@ const MOST_TEXTS: usize = 16;
 // Puts A with a text of its own for each number, and works until nothing is pending.
 fn change_inner(alloc: Global, bench: &mut Bench, number: u64) -> Result<Arc<String>, Fail> {
     let mut changes = Vec::new(alloc);
-    let base = if number == 0 { 0 } else { number.saturating_add(1) };
+    let base = if number == 0 {
+        0
+    } else {
+        number.saturating_add(1)
+    };
     let text = format!(in alloc; "{INNER} (* {number} *)")?;
     put(alloc, &mut changes, "A", base, &text)?;
     bench.commit(1, &changes)?;

@@ -1,3 +1,4 @@
 pub mod Crossing
+pub mod FirstLines
 pub mod SessionLemmas
 pub mod Shorts

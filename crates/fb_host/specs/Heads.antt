@@ -1,6 +1,7 @@
 -- What a connection sends first.
 use Rattle.std.specs.Prelude.{◌≡◌, ◌==◌, ◌||◌, ◌+◌, ◌++◌, ℕ, Bool, List, Some, length, not, slice_get}
 use Rattle.std.specs.List.{position}
+use Rattle.fb_secret.specs.Exchange.{IsForeign}
 
 -- a space, a tab, or an end of a line
 abbrev pub is_blank : ℕ → Bool
@@ -19,3 +20,7 @@ is_feed byte = byte == 10
 -- the line is the bytes up to their first line feed, and it; the rest is what comes after it
 abbrev pub IsFirstLine : (bytes line rest : List ℕ) → Type 0
 IsFirstLine bytes line rest = (n : ℕ) × (position is_feed bytes ≡ Some n) × (length line ≡ n + 1) × (bytes ≡ line ++ rest)
+
+-- no line that comes first proves the secret for this challenge
+abbrev pub ProvesNothing : (secret challenge bytes : List ℕ) → Type 0
+ProvesNothing secret challenge bytes = (line rest : List ℕ) → IsFirstLine bytes line rest → IsForeign secret challenge line

@@ -25,7 +25,7 @@ const REFUSAL_READS: u32 = 64;
 /// Why a connection gets no seat.
 #[derive(Clone, Copy, PartialEq, Eq)]
 enum Turned {
-    /// Its first line did not come in time, it had to give way, or it had gone before it was asked for the secret.
+    /// Its first line did not come in time, it had to give way, it had gone before it was asked for the secret, or there is no memory for the answer.
     Late,
     /// Its first line does not prove the secret.
     WrongSecret,
@@ -119,8 +119,10 @@ fn takes_head(
             Err(Turned::Foreign)
         };
     }
-    let Some(answer) = take_proof(alloc, &mut connection.head, secret, challenge) else {
-        return Err(Turned::WrongSecret);
+    let answer = match take_proof(alloc, &mut connection.head, secret, challenge) {
+        Ok(Some(answer)) => answer,
+        Ok(None) => return Err(Turned::WrongSecret),
+        Err(_) => return Err(Turned::Late),
     };
     let mut stream = &connection.stream;
     match stream.write_all(&answer) {

@@ -1,12 +1,12 @@
 //! The first line of a connection.
-ghost use Rattle.std.specs.Prelude.{◌≡◌, ◌↔◌, IfSome, IsTrue, List, ℕ};
+ghost use Rattle.std.specs.Prelude.{◌≡◌, ◌↔◌, IfErr, IfOk, IsTrue, List, MatchOption, None, ℕ};
 ghost use Rattle.std.specs.List.{position};
-ghost use Rattle.fb_host.specs.Heads.{BeginsRequest, IsFirstLine, is_blank, is_feed, is_mark};
+ghost use Rattle.fb_host.specs.Heads.{BeginsRequest, IsFirstLine, ProvesNothing};
+ghost use Rattle.fb_host.specs.Heads.{is_blank, is_feed, is_mark};
 ghost use Rattle.fb_secret.specs.Exchange.{IsAnswer};
 
 use fb_secret::host_answer;
-use std::alloc::Global;
-use std::mem;
+use std::alloc::{AllocError, Global};
 
 /// The place of the first line feed.
 fn first_feed(bytes: &[u8]) -> Option<usize>
@@ -15,33 +15,42 @@ fn first_feed(bytes: &[u8]) -> Option<usize>
     bytes.iter().position(|byte| *byte == b'\n')
 }
 
-/// Takes the first line off the bytes, with its line feed.
-fn take_line(head: &mut Vec<u8>) -> Option<Vec<u8>>
-    ensures { IfSome result (λ line. IsFirstLine head.old.items line.items head.new.items) }
+/// The first line, with its line feed, and what comes after it.
+fn first_line(bytes: &[u8]) -> Option<(&[u8], &[u8])>
+    ensures { MatchOption result (position is_feed bytes.now ≡ None)
+        (λ parts. IsFirstLine bytes.now parts.0.now parts.1.now) }
 {
-    let end = first_feed(head)?;
-    let Ok(rest) = head.split_off(end + 1) else {
-        return None;
-    };
-    Some(mem::replace(head, rest))
+    match first_feed(bytes) {
+        Some(end) => Some(bytes.split_at(end + 1)),
+        None => None,
+    }
 }
 
-/// Takes the first line off the bytes, and gives what the host answers to it, if it proves the secret for this challenge.
+/// Takes the first line off the bytes, and gives what the host answers to it, if it proves the secret for this challenge. None if there is no line or it
+/// does not. Then, and without memory, the bytes stay as they are.
+#[tactic(auto, using(crate::proofs::FirstLines::foreign))]
 pub fn take_proof(
     alloc: Global,
     head: &mut Vec<u8>,
     secret: &[u8],
     challenge: &[u8],
-) -> Option<Vec<u8>>
-    ensures { IfSome result (λ answer. (line : List ℕ)
+) -> Result<Option<Vec<u8>>, AllocError>
+    ensures proof { IfOk result (λ answer.
+        MatchOption answer
+        (ProvesNothing secret.now challenge.now head.old.items × (head.new.items ≡ head.old.items))
+        (λ bytes. (line : List ℕ)
         × IsFirstLine head.old.items line head.new.items
-        × IsAnswer secret.now challenge.now line answer.items) }
+        × IsAnswer secret.now challenge.now line bytes.items)) }
+    ensures memory { IfErr result (λ _. head.new.items ≡ head.old.items) }
 {
-    let line = take_line(head)?;
-    let Ok(Some(answer)) = host_answer(alloc, secret, challenge, &line) else {
-        return None;
+    let Some((line, rest)) = first_line(head) else {
+        return Ok(None);
     };
-    Some(answer)
+    let Some(answer) = host_answer(alloc, secret, challenge, line)? else {
+        return Ok(None);
+    };
+    *head = rest.to_vec(alloc)?;
+    Ok(Some(answer))
 }
 
 /// Whether the byte is a space, a tab or an end of a line.

@@ -18,13 +18,16 @@ fn a_proof_is_taken_off(rt: HostRuntime) -> Result<(), Fail> {
     let mut head = client_line(rt.alloc(), SECRET, HOST, CLIENT)?;
     let wanted = host_answer(rt.alloc(), SECRET, HOST, &head)?.ok_or("no answer")?;
     head.extend_from_slice(REQUEST)?;
-    let answer = take_proof(rt.alloc(), &mut head, SECRET, HOST).ok_or("no proof")?;
+    let answer = take_proof(rt.alloc(), &mut head, SECRET, HOST)?.ok_or("no proof")?;
     assert!(rt; answer.as_slice() == wanted.as_slice());
     assert!(rt; head.as_slice() == REQUEST);
     for line in ["{\"op\":\"take\"}\n", "0123456789abcdef\n", ""] {
         let mut head = line.as_bytes().to_vec(rt.alloc())?;
-        let answer = take_proof(rt.alloc(), &mut head, SECRET, HOST);
-        assert!(rt; answer.is_none(), "{line}");
+        let answer = take_proof(rt.alloc(), &mut head, SECRET, HOST)?;
+        assert!(rt;
+            answer.is_none() && head.as_slice() == line.as_bytes(),
+            "{line}"
+        );
     }
     Ok(())
 }

@@ -4,7 +4,7 @@ use fb_secret::{
     challenge, challenge_line, client_line, hmac_sha256, host_answer, proofs_are_for_one_exchange,
 };
 use refusing::{each_refused, refuse, report, was_refused};
-use std::alloc::Global;
+use std::alloc::{AllocError, Global};
 use std::io::Print;
 use std::test::Fail;
 
@@ -162,26 +162,31 @@ enum Call {
     TakeProof,
 }
 
-// What a call gives, with memory for it.
-fn made(alloc: Global, call: Call, head: &mut Vec<u8>) -> Option<Vec<u8>> {
-    match call {
-        Call::Challenge => Some(challenge(alloc, SECRET, 7).ok()?.into_bytes()),
-        Call::ChallengeLine => challenge_line(alloc, HOST).ok(),
-        Call::ClientLine => client_line(alloc, SECRET, HOST, CLIENT).ok(),
-        Call::TakeProof => take_proof(alloc, head, SECRET, HOST),
-    }
+// What a call gives, if there is memory for it.
+fn made(alloc: Global, call: Call, head: &mut Vec<u8>) -> Result<Option<Vec<u8>>, AllocError> {
+    let made = match call {
+        Call::Challenge => challenge(alloc, SECRET, 7)?.into_bytes(),
+        Call::ChallengeLine => challenge_line(alloc, HOST)?,
+        Call::ClientLine => client_line(alloc, SECRET, HOST, CLIENT)?,
+        Call::TakeProof => return take_proof(alloc, head, SECRET, HOST),
+    };
+    Ok(Some(made))
 }
 
-// Whether an allocation of a call was refused, and whether the call gave nothing for lack of memory.
+// Whether an allocation of a call was refused, and whether the call found no memory. Then its head has to be as before.
 fn call_without(alloc: Global, call: Call, number: u32) -> Result<(bool, bool), Fail> {
-    let mut head = client_line(alloc, SECRET, HOST, CLIENT)?;
-    let mut again = client_line(alloc, SECRET, HOST, CLIENT)?;
-    let wanted = made(alloc, call, &mut again).ok_or("nothing is made")?;
+    let line = client_line(alloc, SECRET, HOST, CLIENT)?;
+    let mut head = line.as_slice().to_vec(alloc)?;
+    let mut again = line.as_slice().to_vec(alloc)?;
+    let wanted = made(alloc, call, &mut again)?.ok_or("nothing is made")?;
     refuse(alloc, number);
     let found = made(alloc, call, &mut head);
     let is_refused = was_refused(alloc);
-    let is_memory = found.is_none();
-    if found.is_some_and(|bytes| bytes.as_slice() != wanted.as_slice()) {
+    let is_memory = found.is_err();
+    if is_memory && head.as_slice() != line.as_slice() {
+        return Err(Fail::from("the bytes changed"));
+    }
+    if found.is_ok_and(|made| made.is_none_or(|bytes| bytes.as_slice() != wanted.as_slice())) {
         return Err(Fail::from("other bytes"));
     }
     Ok((is_refused, is_memory))
