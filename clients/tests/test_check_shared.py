@@ -27,6 +27,7 @@ from bench61499.snapshot import Snapshot
 ASKED = f"{ONLY_ASKED}\n"
 SAME = "The workbench has the same texts.\n"
 OTHERS = "The faults are those of the workbench's texts.\n"
+CONFLICT = "<<<<<<< mine\n// 1\n=======\n// 2\n>>>>>>> theirs\n"
 GOOD, BAD = "FUNCTION_BLOCK A END_FUNCTION_BLOCK", "FUNCTION_BLOCK A EVENT_INPUT E WITH X; END_EVENT END_FUNCTION_BLOCK"
 
 
@@ -102,6 +103,19 @@ class HostTest(Shared):
             "::warning file=c.fb,title=NOT_CHECKED::not checked: C has another text in the workbench",
             "::notice title=JUDGED::the texts of the workbench",
         ])
+
+    def test_marked_lines_are_not_put(self):
+        """No file is, as with any other file that is refused."""
+        self.other.commit([Put("A", 0, GOOD), Put("Z", 0, "")])
+        self.write("a.fb", f"{GOOD}\n\n{CONFLICT}")
+        self.write("b.fb", BAD.replace("A", "B", 1))
+        words = "has the marked lines of a conflict, and is not committed until they are gone"
+        self.assert_checked(2, "", f"check: a.fb:3: {words}\n", "--replace", "--mirror")
+        self.write("c.fb", f"{GOOD.replace('A', 'C', 1)}\n{CONFLICT}")
+        self.assert_checked(2, "", f"check: a.fb:3: {words}; so has 1 other file\n", "--replace")
+        self.assertEqual({unit: it.text for unit, it in self.other.texts("AZ").items()}, {"A": GOOD, "Z": ""})
+        own = run("check", ".", folder=self.folder)
+        self.assertIn("a.fb:3:1: SYNTAX: these are the marked lines of a merge", own.stdout)
 
     def test_what_both_had_last(self):
         """A folder that is kept the same by sync has the texts that were common."""

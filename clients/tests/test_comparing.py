@@ -40,6 +40,7 @@ MARKED = LONG.replace("  EVENT_INPUT E; END_EVENT\n", """\
   EVENT_INPUT E; G; END_EVENT
 >>>>>>> session {} (commit 2)
 """)
+MARKED_LINES = 2, "both you and others have changed these lines: the text is not put while it has marked ones"
 CAN = {
     "workspace": {"applyEdit": True, "workspaceEdit": {"documentChanges": True}, "didChangeWatchedFiles": {"dynamicRegistration": True}},
     "window": {"showDocument": {"support": True}},
@@ -290,17 +291,34 @@ class ChoosingTest(ComparingTest):
         marked = self.let_edit(editor, MINE, 3)
         self.assertEqual(marked, MARKED.format(self.other.status().session))
         self.assertEqual(editor.await_message(), "bench61499: 1 conflict in A: it is not put while it has marked lines.")
-        hint = 2, "both you and others have changed these lines: the text is not put while it has marked ones"
-        editor.await_told("A.fb", hint)
+        editor.await_told("A.fb", MARKED_LINES)
         self.assertEqual(editor.shown["A.fb"][0]["range"]["start"]["line"], 1)
         editor.save(self.file)
         editor.change(self.file, f"{marked} ", 4)
-        editor.await_told("A.fb", hint)
+        editor.await_told("A.fb", MARKED_LINES)
         self.assertEqual(self.text(), OTHER)
         solved = LONG.replace("E;", "E; F; G;")
         editor.change(self.file, solved, 5)
         editor.await_told("A.fb")
         self.assertEqual(self.text(), solved)
+
+    def test_another_name_in_a_text_with_marked_lines_removes_no_unit(self) -> None:
+        editor = self.opened(GOOD)
+        named = GOOD.replace(" A", " B", 1)
+        editor.change(self.file, f"{named}<<<<<<< mine\n=======\n// 2\n>>>>>>> theirs\n")
+        editor.await_told("A.fb", MARKED_LINES)
+        editor.save(self.file)
+        self.write("C.fb", GOOD.replace(" A", " C", 1))
+        editor.notify("workspace/didChangeWatchedFiles", changes=[])
+        while "C" not in self.names():
+            time.sleep(0.01)
+        self.assertEqual((self.names(), self.text()), ({"A", "C"}, GOOD))
+        editor.change(self.file, named, 3)
+        while self.names() != {"B", "C"}:
+            time.sleep(0.01)
+
+    def names(self) -> set[str]:
+        return {it.unit for it in self.other.units().units}
 
     def test_mine_is_not_offered_with_marked_lines(self) -> None:
         editor = self.conflict(MINE, OTHER)

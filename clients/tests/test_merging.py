@@ -8,7 +8,7 @@ import unittest
 from support import TestCase
 
 from bench61499 import TEXT_LIMIT
-from bench61499.language.merging import Merged, is_marked, merged
+from bench61499.language.merging import Merged, conflict_lines, is_marked, merged
 from bench61499.language.syntax import MARKED, explained
 from bench61499.language.tokens import tokens
 
@@ -72,6 +72,8 @@ class MergingTest(TestCase):
         self.assertTrue(is_marked("<<<<<<< a\r\nx\r\n=======\r\ny\r\n>>>>>>> b\r\n"))
         for text in ("", BASE, "(* <<<<<<< a *)\n=======\n>>>>>>> b\n", "=======\n", "<<<<<<< a\n=======\n"):
             self.assertFalse(is_marked(text))
+        first = merged(BASE, f"0\n{BASE}6\n", f"00\n{BASE}7\n").text
+        self.assertEqual([first.splitlines()[number - 1] for number in conflict_lines(first)], ["<<<<<<< mine"] * 2)
 
     def test_marked_lines_are_explained(self) -> None:
         text = merged("A", "B", "C").text

@@ -108,6 +108,10 @@ class PlanTest(InFolder):
             self.assertEqual(run("plan", "STATION", "--connect", f":{port}").stderr, "plan: STATION is a subapplication; only systems have plans\n")
             self.assertEqual(other.status().calls, calls)
             self.assertEqual(screen("--files", ".", "--replace"), refused("only there: LAMP"))
+            self.write("OTHER.fb", "FUNCTION_BLOCK OTHER\n<<<<<<< mine\n=======\n>>>>>>> theirs\nEND_FUNCTION_BLOCK")
+            there = other.revision("OTHER")
+            words = "plan: OTHER.fb:2: has the marked lines of a conflict, and is not committed until they are gone\n"
+            self.assertEqual((screen("--files", ".", "--replace"), other.revision("OTHER")), ((2, "", words), there))
 
     def test_what_replace_goes_with(self) -> None:
         for words in (["--files", "."], ["--connect", ":9"]):

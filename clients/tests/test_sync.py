@@ -573,6 +573,16 @@ class ConflictTest(KeeperTest):
         self.settle(one)
         self.assertEqual(self.team(), {"A": BELOW})
 
+    def test_a_name_between_marked_lines_removes_no_unit(self) -> None:
+        one, _ = self.both()
+        named = A.replace(" A", " B", 1)
+        one.file("A.fb").write_text(f"{named}<<<<<<< mine\n=======\n// 2\n>>>>>>> theirs\n")
+        one.settle()
+        self.assertEqual((self.team(), one.report.has_troubles()), ({"A": A}, True))
+        one.file("A.fb").write_text(named)
+        self.settle(one)
+        self.assertEqual(self.team(), {"B": named})
+
 
 class LostTest(KeeperTest):
     """Answers that do not come, hosts that are started again, and runs that are killed."""

@@ -151,6 +151,24 @@ class OthersTest(TeamTest):
             editor.await_codes(a=[])
             self.assertEqual(other.revision("A"), 3)
 
+    def test_marked_lines_are_not_put(self) -> None:
+        file, text = self.write("a.fb", GOOD), f"{GOOD}\n<<<<<<< mine\n=======\n// 2\n>>>>>>> theirs\n"
+        with serving(2) as port:
+            editor, other = self.connected(port), self.session(port)
+            editor.open(file)
+            editor.await_codes(a=[])
+            editor.change(file, text)
+            words = "both you and others have changed these lines: the text is not put while it has marked ones"
+            self.await_told(editor, "a.fb", [(2, words)])
+            editor.save(file)
+            new = self.write("b.fb", GOOD.replace("A", "B", 1))
+            editor.open(new)
+            editor.await_codes(b=[])
+            self.assertEqual((other.revision("A"), other.revision("B")), (1, 2))
+            editor.change(file, f"{GOOD}\n", 3)
+            editor.await_codes(a=[])
+            self.assertEqual(other.revision("A"), 3)
+
     def test_a_file_changes_on_disk_under_the_text_of_somebody_else(self) -> None:
         file, mine = self.write("a.fb", GOOD), self.write("b.fb", GOOD.replace("A", "B", 1))
         with serving(2) as port:

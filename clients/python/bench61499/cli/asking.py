@@ -13,7 +13,7 @@ from bench61499.cli.looking import ONLY_ASKED
 from bench61499.language.as_declared import AsDeclared, shown_units
 from bench61499.language.mentions import Mentions
 from bench61499.language.texts import Texts as Known
-from bench61499.language.units import Misuse, Unit, commit_units, read_units
+from bench61499.language.units import Misuse, Unit, commit_units, read_units, refuse_marked
 from bench61499.snapshot import Snapshot
 
 Texts = dict[str, str]
@@ -85,6 +85,8 @@ def asking(options: argparse.Namespace, puts: bool) -> Iterator[Asked]:
     texts = {unit.name: unit.text for unit in units}
     if options.files and options.unit not in texts:
         raise Misuse(f"no file declares the unit {options.unit}")
+    if puts:
+        refuse_marked(units)
     with open_session(options) as session, Progress() as progress:
         def show(results: int) -> None:
             progress.show(f"working: {results:,} results")

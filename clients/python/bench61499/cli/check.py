@@ -13,7 +13,7 @@ from bench61499.cli.findings import Answers, Found, answers_of, ask_plans, find,
 from bench61499.cli.formats import MACHINE_FORMATS, lines, summary
 from bench61499.cli.looking import ONLY_ASKED, look
 from bench61499.cli.version import add_version
-from bench61499.language.units import Misuse, Unit, commit_units, read_units
+from bench61499.language.units import Misuse, Unit, commit_units, read_units, refuse_marked
 from bench61499.snapshot import Snapshot
 
 PLANS = """also compute all networks and plans. Each reason why one is missing is printed and gives status 1: UNMAPPED at the instance, NO_SUCH_BLOCK at the mapping, RECURSIVE at the
@@ -57,6 +57,8 @@ def main() -> int:
         units = read_units(options.path)
         if not units and options.path:
             raise Misuse(f"no *.fb files in {', '.join(map(str, options.path))}")
+        if options.replace:
+            refuse_marked(units)
         checked = persistently(options, lambda: check(options, units))
     except (Misuse, WorkbenchError) as error:
         return fail("check", error)

@@ -10,6 +10,7 @@ from typing import NamedTuple
 
 MARKS = "<<<<<<<", "=======", ">>>>>>>"
 """What the lines begin with that stand round the two sides of a conflict."""
+MARKED = "has the marked lines of a conflict, and is not committed until they are gone"
 _LINES = re.compile(r"[^\n]*\n|[^\n]+")
 _MOST_LINES, _MOST_PAIRS = 5_000, 100_000
 """Lines, and pairs of equal lines, that are compared in reasonable time; texts with more are one conflict."""
@@ -50,10 +51,15 @@ def merged(base: str, mine: str, theirs: str, names: tuple[str, str] = ("mine", 
     return Merged("".join(found), conflicts)
 
 
-def is_marked(text: str) -> bool:
-    """Whether a text has the marked lines of a conflict."""
+def conflict_lines(text: str) -> list[int]:
+    """The numbers of the lines at which the marked lines of conflicts begin; none in a text that has not all of the marks."""
     begins = [line.split(" ")[0].strip() for line in _LINES.findall(text)] if MARKS[0] in text else []
-    return all(mark in begins for mark in MARKS)
+    return [number for number, begin in enumerate(begins, 1) if begin == MARKS[0]] if all(mark in begins for mark in MARKS) else []
+
+
+def is_marked(text: str) -> bool:
+    """Whether a text has the marked lines of a conflict. No client commits one where others get it."""
+    return bool(conflict_lines(text))
 
 
 def _agreed(base: Lines, mine: Lines, theirs: Lines) -> Lines | None:

@@ -10,8 +10,10 @@ from typing import NoReturn
 
 from bench61499 import NAME_LIMIT, TEXT_LIMIT, UNITS_LIMIT, Put, Session, StaleBase, batches
 from bench61499.language.bounded import read_at_most, walk
+from bench61499.language.merging import MARKED, conflict_lines
 from bench61499.language.names import shown
 from bench61499.language.tokens import RESERVED, declared_name
+from bench61499.language.wording import counted
 
 ENDING = ".fb"
 """What the name of a file ends with that is a unit, in small letters or capitals."""
@@ -143,6 +145,14 @@ def read_units(paths: Iterable[Path]) -> list[Unit]:
         names[file] = stand_in_name(file, owners)
         owners[names[file]] = file
     return [Unit(names[file], file, text) for file, text in texts.items()]
+
+
+def refuse_marked(units: Iterable[Unit]) -> None:
+    """Raises `Misuse` where a text has the marked lines of a conflict: nobody else is to get it."""
+    marked = [f"{shown(it.file)}:{lines[0]}" for it in units if (lines := conflict_lines(it.text))]
+    if marked:
+        more = f"; so {'has' if len(marked) == 2 else 'have'} {counted(len(marked) - 1, 'other file')}" if marked[1:] else ""
+        raise Misuse(f"{marked[0]}: {MARKED}{more}")
 
 
 def stand_in_name(file: Path, taken: Iterable[str]) -> str:

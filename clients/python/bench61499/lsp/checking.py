@@ -47,7 +47,7 @@ class Checking:
         self._sources = Sources(lambda words: self.asking.tell(WARNING, words))
         self._new_talk = lambda: Talk(open_workbench, shared, self.asking.tell, wake)
         self._talk: Talk | TeamTalk = self._new_talk()
-        self._pages = Pages(self._sources)
+        self._pages = Pages(self._sources, shared)
         self.choices = Choices(self, self.asking)
         self._offers = Offers(self.asking, self._is_open, self.choices.expect)
         self._vanished = Vanished(self.asking, self._release)

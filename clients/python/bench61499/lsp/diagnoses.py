@@ -2,11 +2,12 @@
 from __future__ import annotations
 
 from collections.abc import Iterable
+from itertools import accumulate
 
 from bench61499 import Fault, Places
 from bench61499.language.explain import Explainer, Names
 from bench61499.language.fitting import fits
-from bench61499.language.merging import MARKS
+from bench61499.language.merging import conflict_lines
 from bench61499.language.positions import range_of
 from bench61499.language.full_checks import Doubtful
 from bench61499.language.skipped import CODE, skipped
@@ -117,10 +118,8 @@ def _age(seconds: float) -> str:
 
 def conflicts(text: str) -> list[Diagnostic]:
     """What is shown of a text with marked lines of a merge."""
-    places, at, found = Places(text), 0, []
-    for line in places.encoded.splitlines(keepends=True):
-        if line.startswith(MARKS[0].encode()):
-            words = "both you and others have changed these lines: the text is not put while it has marked ones"
-            found.append(diagnostic(places, at, at + len(line.rstrip()), words, severity=WARNING))
-        at += len(line)
-    return found
+    words = "both you and others have changed these lines: the text is not put while it has marked ones"
+    lines, places = text.split("\n"), Places(text)
+    starts = [0, *accumulate(len(line.encode()) + 1 for line in lines)]
+    spans = [(starts[number - 1], len(lines[number - 1].rstrip().encode())) for number in conflict_lines(text)]
+    return [diagnostic(places, start, start + size, words, severity=WARNING) for start, size in spans]

@@ -26,11 +26,11 @@ LEAST_AGE = 5.0
 class Pages:
     """What there is to show. `units` and `faults` are what is known of the workbench; there is `trouble` if nothing is known now.
 
-    A workbench that `gives_texts` is compared with the texts here. It `relates` faults to other places if the editor can show that.
+    A workbench that `gives_texts` is compared with the texts here; one that is `shared` gets none with marked lines of a merge. It `relates` faults to other places if the editor can show that.
     """
 
-    def __init__(self, sources: Sources):
-        self._sources = sources
+    def __init__(self, sources: Sources, shared: bool):
+        self._sources, self._shared = sources, shared
         self.units: dict[str, Unit] = {}
         self.faults: dict[str, Faults | None] = {}
         self.trouble = ""
@@ -74,7 +74,7 @@ class Pages:
         if source.unit is None:
             return [self._double(document.text)] if document else []
         self._ages.pop(path, None)
-        if self.gives_texts and is_marked(source.text):
+        if self._shared and is_marked(source.text):
             return [*conflicts(source.text), *marked(self._found.get(path, []), OLD)]
         if self.trouble:
             return self._unknown(path, source.text, f"not checked: {self.trouble}", bool(document))

@@ -7,6 +7,7 @@ from itertools import islice
 
 from bench61499 import CHANGES_LIMIT, UNITS_LIMIT, NoSuchKey, Put, Session
 from bench61499.language.mentions import Mentions
+from bench61499.language.merging import is_marked
 from bench61499.lsp.commits import ABSENT, Committed, Faults, Unit, Wanted
 
 MOST_JOBS = 16
@@ -27,6 +28,7 @@ to units of which the texts here know nothing."""
 
 class SharedTexts(Committed):
     """The units of such a workbench. It puts and removes them against the revisions that it has seen, and never what somebody else has put, unless the user insists.
+    One of a team gets no text with marked lines of a merge.
 
     All its methods are for one thread at a time. After a connection has ended it goes on with `resume`.
     """
@@ -93,6 +95,8 @@ class SharedTexts(Committed):
     def _is_to_put(self, unit: str, text: str) -> bool:
         """Whether the workbench lacks a text: not where it has that of somebody else, unless the user insists."""
         it = self._units[unit]
+        if self._shared and is_marked(text):
+            return False
         return it.text != text and (it.text is not None or unit in self._wanted.insisted or not it.revision and not it.is_changed)
 
     def _find_out(self, units: Iterable[str]) -> None:

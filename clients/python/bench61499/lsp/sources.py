@@ -8,6 +8,7 @@ from pathlib import Path
 from typing import Any
 
 from bench61499.language.folder import Stamp, stamp_of, stamps_of
+from bench61499.language.merging import is_marked
 from bench61499.language.plant import Plant
 from bench61499.language.positions import changed, sound
 from bench61499.language.tokens import declared_name
@@ -196,10 +197,11 @@ class Sources:
         return former is not None and (not source or source.unit != former)
 
     def _unit_of(self, source: Source, former: str | None) -> str | None:
-        """The unit that a text is: as it declares, or as before while it declares none; none where another file is that unit."""
+        """The unit that a text is: as it declares, or as before while it declares none or has marked lines of a conflict; none where another file is that unit."""
         if source.text is None:
             return None
-        name = source.declares or former or stand_in_name(source.file, self.owners)
+        kept = former if is_marked(source.text) else None
+        name = kept or source.declares or former or stand_in_name(source.file, self.owners)
         owner = self.owners.get(name)
         if owner and source.file not in self.documents:
             self._warn(f"{owner} and {source.file} both declare the unit {name}; the first one counts.")

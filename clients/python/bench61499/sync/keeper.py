@@ -6,7 +6,7 @@ from collections.abc import Callable, Iterable, Mapping
 from dataclasses import dataclass, replace
 
 from bench61499 import Change, Put, Remove, WorkbenchError
-from bench61499.language.merging import is_marked
+from bench61499.language.merging import MARKED, is_marked
 from bench61499.mirror import Version
 from bench61499.sync.deciding import Decision, Step, decide
 from bench61499.sync.editors import Opened
@@ -24,7 +24,6 @@ AGAIN = 5.0
 """Seconds after which what failed is tried again."""
 NOT_HERE = 0
 """The revision of a text that was common with another workbench, while this one has had no text of the unit."""
-MARKED = "has the marked lines of a conflict, and is not committed until they are gone"
 LEFT = "is being edited, and left to its editor until it is saved"
 SENT = Step.PUT, Step.REMOVE
 

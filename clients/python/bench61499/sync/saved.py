@@ -8,6 +8,7 @@ from dataclasses import dataclass, field
 from pathlib import Path
 
 from bench61499.language.folder import File, Stamp, read_file, stamp_of, stamps_of
+from bench61499.language.merging import is_marked
 from bench61499.language.names import is_utf_8
 from bench61499.language.tokens import declared_name
 from bench61499.language.units import Misuse, can_be_unit, is_hidden
@@ -153,7 +154,7 @@ class Saved:
 
     def _take_known(self, name: str, unit: str | None, known: Mapping[str, FileRevision], found: Units) -> bool:
         file = self._files[name]
-        if not unit or file.declares not in (None, unit, declared_name(known[unit].text)):
+        if not unit or not _is_still(file, unit, known[unit]):
             return False
         (found.held if file.text is None else found.files)[unit] = name
         if file.problem:
@@ -172,3 +173,8 @@ class Saved:
             found.problems[name] = f"{self.root / name}: declares the unit {file.declares} as {other} does, which counts; this file is not committed"
         else:
             found.files[file.declares] = name
+
+
+def _is_still(file: File, unit: str, known: FileRevision) -> bool:
+    """Whether a file is the unit that it was. While it has marked lines of a conflict, another name in it is not meant yet."""
+    return file.declares in (None, unit, declared_name(known.text)) or is_marked(file.text or "")
