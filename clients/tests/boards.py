@@ -82,7 +82,7 @@ class Viewer:
         self._changes: dict[int, dict[str, Any]] = {}
         self.answers: dict[tuple[str, str], tuple[int, bool]] = {}
         self.about: dict[str, Any] = {}
-        self.ended = ""
+        self.ended, self.session = "", 0
         self.problems: list[str] = []
 
     def take(self) -> None:
@@ -98,7 +98,7 @@ class Viewer:
             self.units[unit] = {"name": name, "kind": kind, "revision": revision, "state": state, "faults": faults, "file": file}
         self._changes.update((it["serial"], it) for it in news["changes"])
         self.answers.update(((kind, unit), (serial, current)) for kind, unit, serial, current in news["answers"])
-        self.ended, self.problems = news["ended"], news["problems"]
+        self.ended, self.problems, self.session = news["ended"], news["problems"], news["session"]
 
     @property
     def changes(self) -> list[dict[str, Any]]:

@@ -14,7 +14,7 @@ from bench61499.lsp.rpc import read_message, write_message
 
 
 class Editor:
-    """An editor with one language server. It keeps what the server shows and asks: diagnostics by file, messages to the user, and requests.
+    """An editor with one language server. It keeps what the server shows and asks: diagnostics by file, messages to the user, its log, and requests.
 
     Where what a test waits for doesn't come, the server is killed after `patience` seconds, and the test fails.
     """
@@ -27,6 +27,7 @@ class Editor:
         self.shown: dict[str, list] = {}
         self.versions: dict[str, int] = {}
         self.messages: list[str] = []
+        self.logged: list[str] = []
         self.passed_over: set[str] = set()
         self.asked: list[dict] = []
         self._number = 0
@@ -61,6 +62,8 @@ class Editor:
             self.versions[name] = message["params"].get("version")
         if message.get("method") == "window/showMessage" and message["params"]["message"] not in self.passed_over:
             self.messages.append(message["params"]["message"])
+        if message.get("method") == "window/logMessage":
+            self.logged.append(message["params"]["message"])
         if "method" in message and "id" in message:
             self.asked.append(message)
         return message

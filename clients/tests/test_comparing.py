@@ -48,7 +48,7 @@ CAN = {
 
 
 def changed(unit: str, commit: int, session: int | str = r"\d+") -> tuple[int, str]:
-    return 3, rf"{unit} was changed by session {session} \(commit {commit}\) \d+ s ago"
+    return 3, rf"{unit} was changed by session {session} \(commit {commit}\) \d+ s ago; you are session \d+"
 
 
 class ComparingTest(TeamTest):
@@ -160,7 +160,7 @@ class KnowingTest(ComparingTest):
     def test_a_unit_is_removed_by_somebody_else(self) -> None:
         editor = self.opened(GOOD)
         self.other.commit([Remove("A", 1)])
-        removed = 3, r"A was removed by session \d+ \(commit 2\) \d+ s ago"
+        removed = 3, r"A was removed by session \d+ \(commit 2\) \d+ s ago; you are session \d+"
         editor.await_told("A.fb", removed)
         editor.change(self.file, f"{GOOD} ")
         editor.await_told("A.fb", removed)

@@ -16,7 +16,7 @@ from test_editor_settings import has_emacs, in_terminal
 from bench61499 import Put, Session
 
 OTHERS = "perhaps not checked: the workbench has {} from another session, at revision 1; edit or save to put this text over it"
-CHANGED = r"1: : FEEDER was changed by session \d+ \(commit \d+\) \d+ s ago"
+CHANGED = r"1: : FEEDER was changed by session \d+ \(commit \d+\) \d+ s ago; you are session \d+"
 PATIENCE = 120
 """Seconds after which something does not come any more."""
 SCRIPT = """

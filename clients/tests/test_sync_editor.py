@@ -16,7 +16,7 @@ from bench61499.sync.editors import Opened, Reporter, opened_in
 PATIENCE = 60.0
 CAN = {"workspace": {"applyEdit": True, "workspaceEdit": {"documentChanges": True}}}
 A = TEXT.format(name="A")
-CHANGED = r"A was changed by session \d+ \(commit \d+\) \d+ s ago"
+CHANGED = r"A was changed by session \d+ \(commit \d+\) \d+ s ago; you are session \d+"
 
 
 class OneFolderTest(InFolder):

@@ -130,7 +130,7 @@ class DayTest(InFolder):
         self.await_agreement(self.ann, self.ben)
         with self.host.session() as session:
             commit = session.text("LIFTER").revision
-        self.cid.editor.await_told("LIFTER.fb", (3, rf"LIFTER was changed by session \d+ \(commit {commit}\) \d+ s ago"))
+        self.cid.editor.await_told("LIFTER.fb", (3, rf"LIFTER was changed by session \d+ \(commit {commit}\) \d+ s ago; you are session \d+"))
         self.cid.do(TAKE)
         self.cid.editor.await_codes(LIFTER=[])
         self.assertEqual(self.cid.text, self.team()["LIFTER"])

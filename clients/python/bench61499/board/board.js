@@ -112,7 +112,7 @@ class LongList {
 
 /** What is known of the workbench: told by the server's events. */
 const board = {
-  units: new Map(), names: [], changes: new Map(), answers: new Map(), about: null, last: 0, problems: [], ended: "", connected: false, refusal: "",
+  units: new Map(), names: [], changes: new Map(), answers: new Map(), about: null, last: 0, problems: [], ended: "", session: 0, connected: false, refusal: "",
 
   /** Listens for as long as the page is seen. A page that is not seen would cost a shared workbench recorded calls. */
   connect() {
@@ -146,7 +146,7 @@ const board = {
     this.addNames(added);
     for (const [kind, unit, serial, current] of news.answers) this.answers.set(`${kind} ${unit}`, { serial, current });
     for (const it of news.changes) this.changes.set(it.serial, it);
-    Object.assign(this, { problems: news.problems, ended: news.ended, calls: news.calls, last: news.last });
+    Object.assign(this, { problems: news.problems, ended: news.ended, calls: news.calls, last: news.last, session: news.session });
     showNews(news);
   },
   /** Keeps the names in order. To sort all of a large plant takes long. */
@@ -332,7 +332,7 @@ function showState() {
   $("problems").hidden = !board.problems.length;
   $("look").hidden = !isAsked();
   const who = isAsked() ? `The workbench tells no session who made a commit, only the revisions. This board has made ${counted(board.calls, "recorded call")}.`
-    : about?.shared ? "Commits of the workbench, by the numbers of its sessions." : "Each is a change of files on disk.";
+    : about?.shared ? `Commits of the workbench, by the numbers of its sessions.${board.session ? ` This board is session ${board.session}, and commits nothing.` : ""}` : "Each is a change of files on disk.";
   $("changes-note").textContent = `Since the board was started. ${who}`;
 }
 

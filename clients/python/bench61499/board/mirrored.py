@@ -52,6 +52,7 @@ class MirroredWatch:
                 self._board.end(f"{error}; trying again")
 
     def _connected(self, is_other: bool) -> None:
+        self._board.known_as(self._mirror.caller)
         if is_other:
             self._board.listed(self._mirror.revisions())
             self._want_plans(list(self._systems))

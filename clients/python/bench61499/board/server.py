@@ -307,6 +307,7 @@ class _Handler(BaseHTTPRequestHandler):
             "problems": news.problems,
             "calls": news.calls,
             "ended": news.ended,
+            "session": news.session,
         }
         about = {"title": board.title, "shared": board.shared, "reads": board.reads, "run": self.server.run}
         return {**told, "about": about} if first else told

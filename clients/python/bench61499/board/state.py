@@ -158,7 +158,9 @@ class Answer:
 
 @dataclass(frozen=True)
 class News:
-    """What came after a version and a change; `last` is the number of the last change. `ended` tells why the workbench answers no more, where it does not."""
+    """What came after a version and a change; `last` is the number of the last change. `ended` tells why the workbench answers no more, where it does not;
+    `session` is the number of the board's own session, 0 if it is not known.
+    """
 
     version: int
     rows: tuple[Row, ...]
@@ -168,6 +170,7 @@ class News:
     problems: tuple[str, ...]
     calls: int
     ended: str
+    session: int
 
 
 class Board:
@@ -183,7 +186,7 @@ class Board:
         self._feed = Feed()
         self._answers: dict[Key, Answer] = {}
         self._problems: tuple[str, ...] = ()
-        self._viewers = self._calls = self._wishes = 0
+        self._viewers = self._calls = self._wishes = self._session = 0
         self._ended = ""
 
     # For the thread that asks the workbench
@@ -294,6 +297,12 @@ class Board:
         with self._news():
             self._ended = why
 
+    def known_as(self, session: int) -> None:
+        """Takes the number as which the workbench knows the board now."""
+        if session != self._session:
+            with self._news():
+                self._session = session
+
     def why_ended(self) -> str:
         with self._changed:
             return self._ended
@@ -367,6 +376,7 @@ class Board:
                 problems=self._problems,
                 calls=self._calls,
                 ended=self._ended,
+                session=self._session,
             )
 
     def row(self, unit: str) -> Row | None:

@@ -25,6 +25,8 @@ def main() -> int:
         repository = Repository(options.git) if options.git else None
         log = Log(repository)
         with open_reading(options) as session:
+            if options.follow:
+                log.connected(session, options)
             log.catch_up(session)
             if options.follow:
                 log.follow(session)
@@ -55,6 +57,14 @@ class Log:
     def __init__(self, repository: Repository | None):
         self._repository = repository
         self._place = repository.place() if repository else Place()
+        self._session = 0
+
+    def connected(self, session: Session, options: argparse.Namespace) -> None:
+        """Tells the number of the session, if it is another one than before."""
+        number = session.status().session
+        if number != self._session:
+            self._session = number
+            say("connected to {}:{} as session {}, which only reads".format(*options.connect, number))
 
     def catch_up(self, session: Session) -> None:
         """Tells what has happened since the last time."""
@@ -103,6 +113,7 @@ class Log:
                 with open_once(options) as session:
                     since = self._place.catch_up(session)
                     say("the host answers again")
+                    self.connected(session, options)
                     waits = pauses()
                     self.follow(session, since)
             except WorkbenchError:

@@ -6,7 +6,7 @@ from typing import Any
 
 from bench61499 import Places
 from bench61499.language.positions import range_of
-from bench61499.lsp.rpc import INFO, Message, tell
+from bench61499.lsp.rpc import INFO, Message, log, tell
 
 Edits = list[dict[str, Any]]
 Then = Callable[[Any, str | None], None]
@@ -46,6 +46,10 @@ class Asking:
     def tell(self, severity: int, words: str) -> None:
         """Shows words to the user."""
         self.send(tell(severity, words))
+
+    def log(self, words: str) -> None:
+        """Adds words to the log of the editor."""
+        self.send(log(words))
 
     def choose(self, words: str, choices: list[str], then: Callable[[str | None], None]) -> None:
         """Has the user choose; None is for no choice."""

@@ -236,8 +236,11 @@ class Checking:
             self._talk.open()
         elif isinstance(self._talk, Talk) and self._talk.successor:
             self._talk = self._talk.successor
-        if (self._talk.trouble, self._talk.gives_texts) != (self._pages.trouble, self._pages.gives_texts):
-            self._pages.trouble, self._pages.gives_texts = self._talk.trouble, self._talk.gives_texts
+        if self._talk.caller != self._pages.caller:
+            self.asking.log(f"This editor is session {self._talk.caller} of the workbench.")
+        known = self._talk.trouble, self._talk.gives_texts, self._talk.caller
+        if known != (self._pages.trouble, self._pages.gives_texts, self._pages.caller):
+            self._pages.trouble, self._pages.gives_texts, self._pages.caller = known
             self._show([*self._shown, *self._sources.documents])
 
     def _is_new(self) -> bool:

@@ -100,14 +100,15 @@ def named(units: Iterable[str]) -> str:
     return listed([*its[:MOST_NAMED], *([f"{more:,} more"] if more > 0 else [])], "and")
 
 
-def changed(unit: str, it: Unit, now: float) -> str:
-    """Who has changed a unit, and when, as far as that is known."""
+def changed(unit: str, it: Unit, now: float, caller: int) -> str:
+    """Who has changed a unit, and when, as far as that is known; `caller` is the number of this editor's session, which somebody else may have had before."""
     author = it.author
     if not author:
         return f"{unit} differs from the team's text (commit {it.revision})"
     what, who = "changed" if it.revision else "removed", f"session {author.session}" if author.session else "others"
     commit = f" (commit {author.commit})" if author.commit else ""
-    return f"{unit} was {what} by {who}{commit} {_age(now - author.heard)} ago"
+    told = f"{unit} was {what} by {'an earlier ' * (caller == author.session > 0)}{who}{commit} {_age(now - author.heard)} ago"
+    return f"{told}; you are session {caller}" if caller and author.session else told
 
 
 def _age(seconds: float) -> str:

@@ -24,7 +24,7 @@ LEAST_AGE = 5.0
 
 
 class Pages:
-    """What there is to show. `units` and `faults` are what is known of the workbench; there is `trouble` if nothing is known now.
+    """What there is to show. `units` and `faults` are what is known of the workbench; there is `trouble` if nothing is known now. `caller` is the number of this editor's session.
 
     A workbench that `gives_texts` is compared with the texts here; one that is `shared` gets none with marked lines of a merge. It `relates` faults to other places if the editor can show that.
     """
@@ -33,7 +33,7 @@ class Pages:
         self._sources, self._shared = sources, shared
         self.units: dict[str, Unit] = {}
         self.faults: dict[str, Faults | None] = {}
-        self.trouble = ""
+        self.trouble, self.caller = "", 0
         self.gives_texts = self.relates = False
         self._found: dict[Path, list[Diagnostic]] = {}
         self._others: dict[Path, list[Diagnostic]] = {}
@@ -107,7 +107,7 @@ class Pages:
         now = time.monotonic()
         if it.author:
             self._ages[path] = now + max(LEAST_AGE, now - it.author.heard)
-        return changed(unit, it, now)
+        return changed(unit, it, now, self.caller)
 
     def _unknown(self, path: Path, text: str, why: str, is_told: bool) -> list[Diagnostic]:
         """The last faults that were found of a text, marked as such, and why there are no newer ones."""

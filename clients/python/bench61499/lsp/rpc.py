@@ -69,6 +69,11 @@ def tell(severity: int, words: str) -> Message:
     return {"method": "window/showMessage", "params": {"type": severity, "message": f"bench61499: {words}"}}
 
 
+def log(words: str) -> Message:
+    """The message that an editor adds to its log."""
+    return {"method": "window/logMessage", "params": {"type": INFO, "message": f"bench61499: {words}"}}
+
+
 def failure(code: int, message: str) -> Message:
     """The part of an answer that tells why there is none."""
     return {"error": {"code": code, "message": message}}

@@ -26,10 +26,12 @@ class Talk:
     """One talk. `wake` is called, in its thread, when something is done; `tell` shows words to the user.
 
     A shared workbench is looked for again by itself, an own one when `open` is called. `trouble` tells why nothing is checked now; it is empty
-    if all is well. `successor` is the talk that goes on, if the workbench turns out to answer reads.
+    if all is well. `successor` is the talk that goes on, if the workbench turns out to answer reads. `caller` is the number of the session that commits,
+    0 if nobody tells it.
     """
 
     gives_texts = is_over = False
+    caller = 0
 
     def __init__(self, open_workbench: Callable[[], Session], shared: bool, tell: Callable[[int, str], None], wake: Callable[[], None]):
         self._open_workbench, self._shared, self._tell, self._wake = open_workbench, shared, tell, wake

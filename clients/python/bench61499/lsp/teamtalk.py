@@ -36,7 +36,7 @@ class TeamTalk:
 
     def __init__(self, connect: Callable[[], Session], first: Session, tell: Callable[[int, str], None], wake: Callable[[], None]):
         self._connect, self._first, self._tell, self._wake = connect, [first], tell, wake
-        self.trouble = ""
+        self.trouble, self._known_caller = "", 0
         self.is_over = self._is_known = self._is_woken = False
         self._told: queue.SimpleQueue[Told] = queue.SimpleQueue()
         self._mirror = Mirror(self._open, self._hear, all_texts=True)
@@ -47,6 +47,10 @@ class TeamTalk:
         self._failure: WorkbenchError | None = None
         self._due: float | None = None
         self._mirror.start()
+
+    @property
+    def caller(self) -> int:
+        return self._mirror.caller
 
     def _open(self) -> Session:
         return self._first.pop() if self._first else self._connect()
@@ -145,5 +149,7 @@ class TeamTalk:
         if trouble and not self.trouble:
             self._tell(ERROR, trouble)
         elif self.trouble and not trouble:
-            self._tell(INFO, "The workbench answers again.")
+            is_other = self.caller != self._known_caller
+            self._tell(INFO, f"The workbench answers again{f'; this editor is session {self.caller} now' if is_other else ''}.")
+        self._known_caller = self._known_caller if trouble else self.caller
         self.trouble = trouble

@@ -97,6 +97,8 @@ class Keeper:
         self._team.take()
         if not self._team.workbench:
             return False
+        if self._ways.push and not self._ways.is_dry:
+            self._report.connected(self._team.session)
         if self._team.workbench != self._store.identity:
             self._meet(self._team.workbench)
         if self._team.units - self._units.files.keys():

@@ -23,8 +23,8 @@ _DONE = {
 class Report:
     """Lines on standard output for what was done, or would be if it `is_dry`; lines on standard error for what can't be done, once for each reason."""
 
-    def __init__(self, is_dry: bool = False):
-        self._is_dry = is_dry
+    def __init__(self, is_dry: bool = False, address: str = ""):
+        self._is_dry, self._address, self._session = is_dry, address, 0
         self._lines: list[tuple[Step, str]] = []
         self._troubles: dict[str, str] = {}
         self._problems: dict[str, str] = {}
@@ -38,6 +38,12 @@ class Report:
         """Tells of a step that is not done in this run, if nothing is."""
         if self._is_dry and step != Step.AGREE:
             self.did(step, name)
+
+    def connected(self, session: int) -> None:
+        """Tells the number by which others know who commits, if it is another one than before."""
+        if session != self._session:
+            self._session = session
+            self.say(f"connected to {self._address} as session {session}")
 
     def flush(self) -> None:
         """Prints what was done since the last time."""

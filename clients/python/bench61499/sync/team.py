@@ -38,7 +38,8 @@ class Team:
         self._woken = threading.Event()
         self._mirror = Mirror(connect, self._told, all_texts=True, kinds=())
         self._awaited: dict[str, _Awaited] = {}
-        self._callers: dict[str, int] = {}
+        self._callers: dict[str, str] = {}
+        self._own: set[int] = set()
         self.units: set[str] = set()
         self.error: WorkbenchError | None = None
 
@@ -64,7 +65,8 @@ class Team:
             match self._news.get():
                 case Connected(_, is_other):
                     self.error = None
-                    self._awaited = {} if is_other else self._awaited
+                    if is_other:
+                        self._awaited, self._own, self._callers = {}, set(), {}
                 case Loaded():
                     self.units |= self._mirror.revisions().keys()
                 case Changed(commit, changes):
@@ -77,7 +79,7 @@ class Team:
 
     def _see(self, number: int, caller: int, units: Iterable[str]) -> None:
         for unit in units:
-            self._callers[unit] = caller
+            self._callers[unit] = "you" if number in self._own else f"session {caller}"
             if unit in self._awaited and self._awaited[unit].number <= number:
                 del self._awaited[unit]
 
@@ -105,6 +107,11 @@ class Team:
         """The identity of the workbench, once all of its units are known; empty before."""
         return self._mirror.workbench if self._mirror.is_loaded else ""
 
+    @property
+    def session(self) -> int:
+        """The number of the session that commits; another one, perhaps, after each new connection."""
+        return self._mirror.caller
+
     def version(self, unit: str) -> Version | None:
         """A unit as it is there; None while that is not known, as after a commit that was not told yet."""
         version = self._mirror.version(unit)
@@ -117,7 +124,7 @@ class Team:
 
     def caller(self, unit: str) -> str:
         """Who changed a unit last, in words; empty if that is not known."""
-        return f" by session {self._callers[unit]}" if unit in self._callers else ""
+        return f" by {self._callers[unit]}" if unit in self._callers else ""
 
     # What is done
 
@@ -125,6 +132,7 @@ class Team:
         """Commits, and gives the commit's number. Raises `WorkbenchError`."""
         with self._mirror.session(workbench) as session:
             number = session.commit(changes)
+        self._own.add(number)
         for it in changes:
             self.expect(it.unit, number, not isinstance(it, Put))
         return number
