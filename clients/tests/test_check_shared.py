@@ -16,8 +16,8 @@ from xml.etree import ElementTree
 
 from support import CLIENTS, HISTORY, InFolder, hosting, run, serving, until, used
 
-from bench61499 import Change, ConnectionEnded, Fault, NoResult, NotLetIn, Put, Remove, Session, batches
-from bench61499.cli.command import AGAIN, persistently
+from bench61499 import Change, Commit, ConnectionEnded, Fault, NoResult, NotLetIn, Put, Remove, Session, batches
+from bench61499.cli.command import AGAIN, Progress, persistently
 from bench61499.cli.comparing import STATE, replace
 from bench61499.cli.looking import ONLY_ASKED
 from bench61499.language.units import Misuse, Unit
@@ -174,7 +174,10 @@ class HostTest(Shared):
         self.write("a.fb", GOOD)
         self.assertEqual(self.check(self.port, "--replace").stdout, "1 unit, no faults\n")
         self.other.commit([Put("A", 1, BAD)])
-        self.assertEqual(self.check(self.port, "--replace").stdout, "1 unit, no faults\nThe workbench had 1 of them before, and has these texts now.\n")
+        ran = self.check(self.port, "--replace")
+        self.assertEqual(ran.stdout, "1 unit, no faults\nThe workbench had 1 of them before, and has these texts now.\n")
+        (caller,) = [it.caller for it in self.other.watch(0).events if isinstance(it, Commit) and it.number == 3]
+        self.assertEqual(ran.stderr, f"committed as session {caller}, commit 3: A\n")
         self.assertEqual(self.other.text("A").revision, 3)
         self.assert_checked(0, "1 unit, no faults\nThe workbench had 1 of them before, and has these texts now.\n", "", "--replace")
         ran = run("check", ".", "--replace", folder=self.folder)
@@ -189,7 +192,8 @@ class HostTest(Shared):
         self.assertEqual((ran.returncode, ran.stderr), (0, "check: the workbench has also units that no file has: B\n"))
         self.assertEqual([it["difference"] for it in json.loads(self.check(self.port, "--replace", "--json").stdout)["differences"]], ["only there"])
         ran = self.check(self.port, "--replace", "--mirror", "--quiet")
-        self.assertEqual((ran.returncode, ran.stdout.split(": ")[1], ran.stderr), (1, "UNKNOWN_TYPE", ""))
+        self.assertEqual((ran.returncode, ran.stdout.split(": ")[1]), (1, "UNKNOWN_TYPE"))
+        self.assertRegex(ran.stderr, r"^committed as session \d+, commit 2: B\n$")
         self.assertEqual([it.unit for it in self.other.units().units], ["A"])
         for words in (["a.fb", "--replace", "--mirror"], [".", "--mirror"]):
             ran = run("check", *words, "--connect", f":{self.port}", folder=self.folder)
@@ -199,14 +203,12 @@ class HostTest(Shared):
         """The one that comes later stops at the first unit of the other, and leaves all others of them."""
         units = [Unit(f"U{at:02}", Path(f"{at}.fb"), GOOD) for at in range(40)]
 
-        def quietly(_: str) -> None:
-            pass
-
         snapshot = Snapshot(self.other)
-        with Session.connect("127.0.0.1", self.port) as session:
-            self.assertEqual(replace(session, Snapshot(session), [Unit(it.name, it.file, BAD) for it in units], False, quietly), 0)
+        with Session.connect("127.0.0.1", self.port) as session, contextlib.redirect_stderr(io.StringIO()) as said:
+            self.assertEqual(replace(session, Snapshot(session), [Unit(it.name, it.file, BAD) for it in units], False, Progress()), 0)
+        self.assertRegex(said.getvalue(), r"^committed as session \d+, commits 1 to 3: U00, .*, U19 and 20 more\n$")
         with self.assertRaisesRegex(Misuse, "^U00 was changed by somebody else"):
-            replace(self.other, snapshot, units, False, quietly)
+            replace(self.other, snapshot, units, False, Progress())
         self.assertEqual({it.text for it in Snapshot(self.other).texts.values()}, {BAD})
 
 

@@ -97,7 +97,9 @@ class PlanTest(InFolder):
         with hosting() as port, Session.connect("127.0.0.1", port) as other:
             self.assertEqual(screen(), (1, "", "plan: the workbench has no system PLANT\n"))
             self.assertEqual(screen("--files", "."), refused("only here: FEEDER, HANDOVER, ITEM, LAMP, LIFTER, PLANT, STATION"))
-            self.assertEqual(screen("--files", ".", "--replace"), (0, SCREEN, ""))
+            status, printed, told = screen("--files", ".", "--replace")
+            self.assertEqual((status, printed), (0, SCREEN))
+            self.assertRegex(told, r"^committed as session \d+, commit 1: FEEDER, HANDOVER, ITEM, LAMP, LIFTER, PLANT, STATION\n$")
             calls = other.status().calls
             self.assertEqual(screen("--files", "."), (0, SCREEN, ""))
             self.edit("PLANT.fb", "T#250ms", "T#1s")
@@ -107,7 +109,9 @@ class PlanTest(InFolder):
             self.assertEqual(screen(), (0, SCREEN, ""))
             self.assertEqual(run("plan", "STATION", "--connect", f":{port}").stderr, "plan: STATION is a subapplication; only systems have plans\n")
             self.assertEqual(other.status().calls, calls)
-            self.assertEqual(screen("--files", ".", "--replace"), refused("only there: LAMP"))
+            status, printed, told = screen("--files", ".", "--replace")
+            self.assertRegex(told, r"^committed as session \d+, commit 2: OTHER, PLANT\n")
+            self.assertEqual((status, printed, told.partition("\n")[2]), refused("only there: LAMP"))
             self.write("OTHER.fb", "FUNCTION_BLOCK OTHER\n<<<<<<< mine\n=======\n>>>>>>> theirs\nEND_FUNCTION_BLOCK")
             there = other.revision("OTHER")
             words = "plan: OTHER.fb:2: has the marked lines of a conflict, and is not committed until they are gone\n"

@@ -94,7 +94,7 @@ def asking(options: argparse.Namespace, puts: bool) -> Iterator[Asked]:
         if options.connect and session.answers_reads():
             snapshot = Snapshot(session)
             if puts:
-                replace(session, snapshot, units, False, progress.show)
+                replace(session, snapshot, units, False, progress)
             yield Compared(session, snapshot, show, options.unit, units, last_common(options.files or [], snapshot.workbench))
             return
         is_own = not options.connect

@@ -19,7 +19,8 @@ from bench61499.snapshot import Snapshot
 PLANS = """also compute all networks and plans. Each reason why one is missing is printed and gives status 1: UNMAPPED at the instance, NO_SUCH_BLOCK at the mapping, RECURSIVE at the
 instance by which a type contains itself or leads to such a type, BLOCKED at the instance that leads to units that are absent or have faults, TOO_LARGE at the declared name.
 A unit that only its own faults block gets no further line"""
-REPLACE = """with --connect: put the files first that differ; they replace the server's texts, even what a colleague has not saved yet"""
+REPLACE = """with --connect: put the files first that differ; they replace the server's texts, even what a colleague has not saved yet. None is put if one
+has the marked lines of a merge"""
 
 STRICT = """warnings of this client give status 1 too: types of values that are nowhere, and names in algorithms IN ST_FULL, which the workbench does not read"""
 
@@ -89,7 +90,7 @@ def read_options() -> argparse.Namespace:
         description="Checks texts of IEC 61499 units. Each *.fb file is one unit, named by its declaration. With --connect it compares the files with the texts of the server, "
         "checks those that are the same, names the others, and changes nothing; without PATH it checks all units of the server, as files NAME.fb.",
         epilog="The status is 0 if there are no faults; 1 if there are, or warnings with --strict; 2 if a path is absent or unreadable, there is no *.fb file or more than 16,384, two files "
-        "declare one unit, a file has more than 65,536 bytes or is not UTF-8, the server lacks a unit, has another text of it or gives none back, somebody changed one meanwhile, "
+        "declare one unit, a file has more than 65,536 bytes, is not UTF-8, or has marked lines of a merge with --replace, the server lacks a unit, has another text of it or gives none back, somebody changed one meanwhile, "
         "no workbench answers, a result does not come within the patience, or the output can't be written.",
     )
     add_version(reader)
@@ -140,7 +141,7 @@ def check(options: argparse.Namespace, units: list[Unit]) -> Checked:
 def check_shared(session: Session, options: argparse.Namespace, units: list[Unit], progress: Progress) -> Checked:
     """Compares the units with a workbench that others use, after it has put them if that is asked for, and reads the faults of those that are the same."""
     snapshot = Snapshot(session)
-    replaced = replace(session, snapshot, units, options.mirror, progress.show) if options.replace else 0
+    replaced = replace(session, snapshot, units, options.mirror, progress) if options.replace else 0
     units = units or [Unit(name, Path(f"{name}.fb"), it.text) for name, it in snapshot.texts.items()]
     faults: list[Key] = [("faults", unit.name) for unit in units]
     plans = keys_of(units) if options.plans else []

@@ -215,8 +215,17 @@ class Progress:
         return self
 
     def __exit__(self, *_: object) -> None:
+        self._clear()
+
+    def _clear(self) -> None:
         if self._shown:
             print("\r\033[K", end="", file=sys.stderr, flush=True)
+            self._shown = False
+
+    def tell(self, words: str) -> None:
+        """Prints a message in the place of the line."""
+        self._clear()
+        tell(words)
 
     def show(self, words: str) -> None:
         if sys.stderr.isatty() and time.monotonic() >= self._next:

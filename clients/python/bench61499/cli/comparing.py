@@ -2,7 +2,7 @@
 from __future__ import annotations
 
 import sqlite3
-from collections.abc import Callable, Iterable, Iterator, Mapping
+from collections.abc import Iterable, Iterator, Mapping
 from contextlib import closing
 from dataclasses import dataclass
 from enum import StrEnum
@@ -11,6 +11,7 @@ from operator import attrgetter
 from pathlib import Path
 
 from bench61499 import UNITS_LIMIT, Change, NoSuchUnit, Put, Remove, Session, StaleBase, batches
+from bench61499.cli.command import Progress
 from bench61499.language.units import Misuse, Unit
 from bench61499.snapshot import Snapshot
 from bench61499.sync import store
@@ -114,19 +115,27 @@ def named(units: list[str]) -> str:
     return ", ".join(units[:NAMED]) + (f" and {more:,} more" if more > 0 else "")
 
 
-def replace(session: Session, snapshot: Snapshot, units: list[Unit], is_mirror: bool, show: Callable[[str], object]) -> int:
-    """Puts the units that differ, over what the workbench had a moment ago, and gives how many it had. Raises `Misuse` if somebody changes one meanwhile."""
+def replace(session: Session, snapshot: Snapshot, units: list[Unit], is_mirror: bool, progress: Progress) -> int:
+    """Puts the units that differ, over what the workbench had a moment ago, and gives how many it had. Raises `Misuse` if somebody changes one meanwhile.
+
+    Tells the user as which session it has done that, as others see the number, and the session ends with the program.
+    """
     there = snapshot.texts
     puts: list[Change] = [Put(it.name, there[it.name].revision if it.name in there else 0, it.text) for it in units if it.name not in there or there[it.name].text != it.text]
     gone: list[Change] = [Remove(it.unit, there[it.unit].revision) for it in only_there(units, there, {})] if is_mirror else []
-    done = 0
-    for batch in batches([*puts, *gone]):
-        try:
-            session.commit(batch)
-        except (StaleBase, NoSuchUnit) as refusal:
-            raise Misuse(AGAIN.format(refusal.unit)) from None
-        done += len(batch)
-        show(f"putting units: {done:,} of {len(puts) + len(gone):,}")
+    caller = session.status().session if puts or gone else 0
+    commits, done = list[int](), list[str]()
+    try:
+        for batch in batches([*puts, *gone]):
+            commits.append(session.commit(batch))
+            done += [it.unit for it in batch]
+            progress.show(f"putting units: {len(done):,} of {len(puts) + len(gone):,}")
+    except (StaleBase, NoSuchUnit) as refusal:
+        raise Misuse(AGAIN.format(refusal.unit)) from None
+    finally:
+        if done:
+            numbers = f"commit {commits[0]}" if not commits[1:] else f"commits {commits[0]} to {commits[-1]}"
+            progress.tell(f"committed as session {caller}, {numbers}: {named(sorted(done))}")
     return sum(it.name in there for it in units)
 
 

@@ -60,7 +60,7 @@ class Log:
         self._session = 0
 
     def connected(self, session: Session, options: argparse.Namespace) -> None:
-        """Tells the number of the session, if it is another one than before."""
+        """Prints the number of the session, if it is another one than before."""
         number = session.status().session
         if number != self._session:
             self._session = number

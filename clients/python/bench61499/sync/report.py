@@ -40,7 +40,7 @@ class Report:
             self.did(step, name)
 
     def connected(self, session: int) -> None:
-        """Tells the number by which others know who commits, if it is another one than before."""
+        """Prints the number by which others know who commits, if it is another one than before."""
         if session != self._session:
             self._session = session
             self.say(f"connected to {self._address} as session {session}")
