@@ -298,6 +298,8 @@ class UnitsTest(PageTest):
             self.see(at, len(STATES), "#FEEDER/text")
             self.browser.until("document.querySelector('.text')")
             self.assertTrue(self.browser.value("$('look').hidden && $('note').hidden && $('ended').hidden"))
+            self.browser.until("board.session")
+            self.assertRegex(self.words("#changes-note"), r"This board is session \d+, and commits nothing\.$")
             wrong = texts["FEEDER"].replace("DONE TO IDLE", "DONE TO IDEL")
             engineer.commit([Put("FEEDER", 1, wrong)])
             self.until_words("mark", "IDEL")

@@ -70,12 +70,6 @@ class NumbersTest(InFolder):
         self.assertNotEqual(first, second)
         until(lambda: f"the host answers again\nconnected to {self.address} as session {second}\nB.fb: committed" in one.said())
 
-    def test_sync_that_commits_nothing_is_silent(self) -> None:
-        self.session().commit([Put("A", 0, A)])
-        for words in ["--pull"], ["--push", "--dry-run"]:
-            ran = subprocess.run([CLIENTS / "sync", self.folder / "one", "--connect", f":{self.tap.port}", *words], capture_output=True, text=True, check=True)
-            self.assertNotIn("session", ran.stdout.replace("by session", ""))
-
     def test_an_editor(self) -> None:
         editor = Editor("--connect", f":{self.tap.port}")
         self.addCleanup(editor.close)

@@ -563,6 +563,13 @@ class ConflictTest(KeeperTest):
         self.settle(other)
         self.assertEqual((other.file("A.fb.theirs").read_text(), "mine" in other.kept()), (HOT, True))
 
+    def test_who_has_changed_a_unit(self) -> None:
+        one, other = self.both()
+        self.assertEqual((one.team.caller("A"), other.team.caller("A")), (" by you", f" by session {one.team.session}"))
+        other.file("A.fb").write_text(HOT)
+        self.settle(other, one)
+        self.assertEqual((one.team.caller("A"), other.team.caller("A")), (f" by session {other.team.session}", " by you"))
+
     def test_marked_lines_are_not_committed(self) -> None:
         one, _ = self.both()
         marked = f"<<<<<<< mine\n{A}=======\n{A}>>>>>>> theirs\n"
@@ -789,7 +796,9 @@ class CommandTest(InFolder):
             self.assertEqual(self.sync(port, "--pull"), (0, [], ""))
             self.assertEqual(self.sync(port, "--dry-run"), (0, ["A.fb: to be committed", "B.fb: to be committed"], ""))
             self.assertEqual(session.status().commits, 1)
-            self.assertEqual(self.sync(port, "--push"), (0, ["A.fb: committed: revision 2", "B.fb: committed: revision 2"], ""))
+            status, (first, *lines), errors = self.sync(port, "--push")
+            self.assertEqual((status, lines, errors), (0, ["A.fb: committed: revision 2", "B.fb: committed: revision 2"], ""))
+            self.assertRegex(first, rf"^connected to 127.0.0.1:{port} as session \d+$")
             session.commit([Put("A", 2, HOT), Remove("B", 2)])
             self.assertEqual(self.sync(port, "--push"), (0, [], ""))
             self.write("plant/A.fb", HOTTER)

@@ -60,11 +60,11 @@ def sync(options: argparse.Namespace) -> int:
     with open_reading(options):
         pass  # Who is not let in, or asks a server without reads, learns it before the folder is touched.
     both = options.pull == options.push
-    ways = Ways(both or options.pull, both or options.push, options.dry_run, options.remove)
+    is_once = options.pull or options.push or options.dry_run
+    ways = Ways(both or options.pull, both or options.push, options.dry_run, options.remove, is_once)
     address = "{}:{}".format(*options.connect)
     report = Report(options.dry_run, address)
     with opened(options.folder, options.dry_run) as (saved, store), Team(lambda: open_once(options)) as team:
-        is_once = options.pull or options.push or options.dry_run
         keeper = Keeper(saved, store, team, ways, report, dict if is_once else lambda: opened_in(store.folder))
         if is_once:
             keep_once(keeper, team)

@@ -30,12 +30,13 @@ SENT = Step.PUT, Step.REMOVE
 
 @dataclass(frozen=True)
 class Ways:
-    """What may be done: files be written, changes be committed, both only be told, many units be removed."""
+    """What may be done: files be written, changes be committed, both only be told, many units be removed. A run that `is_once` names its session only with a commit."""
 
     pull: bool = True
     push: bool = True
     is_dry: bool = False
     removes_many: bool = False
+    is_once: bool = False
 
     def may(self, step: Step) -> bool:
         return not self.is_dry and (step == Step.AGREE or (self.push if step in SENT else self.pull))
@@ -97,7 +98,7 @@ class Keeper:
         self._team.take()
         if not self._team.workbench:
             return False
-        if self._ways.push and not self._ways.is_dry:
+        if not self._ways.is_once:
             self._report.connected(self._team.session)
         if self._team.workbench != self._store.identity:
             self._meet(self._team.workbench)
@@ -269,6 +270,8 @@ class Keeper:
         if self._team.error:
             self._dirty |= sent.keys()
             return
+        if changes:
+            self._report.connected(self._team.session)
         try:
             self._dirty |= set(self._outgoing.send(changes, files))
         except WorkbenchError:
