@@ -180,71 +180,72 @@ class Parser:
     def fail(self):
         raise Broken(self.here.start, self.here.end)
 
-    def word(self, *ws):
-        return self.here.kind == "WORD" and self.here.up in ws
-
-    def sym(self, *ss):
-        return self.here.kind == "SYMBOL" and self.here.text in ss
+    def sees(self, *texts):
+        """Whether one of these words or symbols is here."""
+        return self.here.kind in ("WORD", "SYMBOL") and self.here.up in texts
 
     def kind(self, *ks):
         return self.here.kind in ks
-
-    def is_name(self):
-        return self.here.name
 
     def take(self):
         self.i += 1
         return self.t[self.i - 1]
 
-    def need_word(self, *ws):
-        return self.take() if self.word(*ws) else self.fail()
+    def need(self, *texts):
+        return self.take() if self.sees(*texts) else self.fail()
 
-    def need_sym(self, *ss):
-        return self.take() if self.sym(*ss) else self.fail()
+    def try_(self, *texts):
+        return self.take() if self.sees(*texts) else None
 
     def number(self):
         return self.take() if self.kind("NUMBER") else self.fail()
 
     def name(self):
-        return self.take() if self.is_name() else self.fail()
+        return self.take() if self.here.name else self.fail()
 
-    def try_word(self, *ws):
-        return self.take() if self.word(*ws) else None
-
-    def try_sym(self, *ss):
-        return self.take() if self.sym(*ss) else None
+    def form(self, words, *given):
+        """What is read by the methods that the words in lower case name, in turn with the other words and symbols, which have to be there."""
+        found = []
+        for it in words.split():
+            if it.islower():
+                found.append(getattr(self, it)(*given))
+            else:
+                self.need(it)
+        return found
 
     def separated(self, one):
         """One or more of these, with commas between them."""
         found = [one()]
-        while self.try_sym(","):
+        while self.try_(","):
             found.append(one())
         return found
 
+    def names(self):
+        return self.separated(self.name)
+
     def pass_over(self, word):
         """All up to this word."""
-        while not self.kind("END") and not self.word(word):
+        while not self.kind("END") and not self.sees(word):
             self.take()
-        self.need_word(word)
+        self.need(word)
 
     # -- units
     def unit(self):
-        word = self.need_word(*KINDS).up
+        word = self.need(*KINDS).up
         u = Bag(kind=KINDS[word], name=self.name(), sections=set(), events=[], vars=[], inits=[], insts=[], conns=[], states=[],
                 trans=[], algs=[], apps=[], devices=[], mappings=[])
         if u.kind == "structure":
-            self.need_sym(":")
-            self.need_word("STRUCT")
+            self.form(": STRUCT")
             self.items(u, *ITEMS["STRUCT"])
-            self.try_sym(";")
+            self.try_(";")
         self.sections(u, u.kind)
-        self.need_word("END_" + word)
+        self.need("END_" + word)
         if not self.kind("END"):
             self.fail()
         return u
 
     def sections(self, u, kind):
-        while self.word(*SECTIONS[kind]):
+        while self.sees(*SECTIONS[kind]):
             word = self.take().up
             u.sections.add(word)
             if word in ITEMS:
@@ -255,265 +256,229 @@ class Parser:
                 getattr(self, word.lower())(u)
 
     def items(self, u, read, sort, closing):
-        while self.is_name():
+        while self.here.name:
             getattr(self, read)(u, sort)
-        self.need_word(closing)
+        self.need(closing)
 
     # -- systems
     def application(self, u):
         a = Bag(name=self.name(), sections=set(), insts=[], conns=[])
         self.sections(a, "application")
-        self.need_word("END_APPLICATION")
+        self.need("END_APPLICATION")
         u.apps.append(a)
 
     def device(self, u):
         d = Bag(name=self.typed(), resources=[])
-        while self.try_word("RESOURCE"):
-            d.resources.append(self.typed())
-            self.need_word("END_RESOURCE")
-        self.need_word("END_DEVICE")
+        while self.try_("RESOURCE"):
+            d.resources += self.form("typed END_RESOURCE")
+        self.need("END_DEVICE")
         u.devices.append(d)
 
     def typed(self):
         """The name of a device or a resource, with its type and parameters, which no rule is about."""
-        name = self.name()
-        self.need_sym(":")
-        self.name()
-        self.params()
-        self.try_sym(";")
+        name, *_ = self.form("name : name params")
+        self.try_(";")
         return name
 
     def mapping(self, u, _):
-        path = self.end(math.inf)
-        self.need_word("ON")
-        device = self.name()
-        self.need_sym(".")
-        u.mappings.append((path, device, self.name()))
-        self.need_sym(";")
+        u.mappings.append(self.form("path ON name . name ;"))
 
     # -- ports, values and types
     def event(self, u, side):
         e = Bag(name=self.name(), side=side, withs=[])
-        if self.try_sym(":"):
+        if self.try_(":"):
             self.name()
-        if self.try_word("WITH"):
-            e.withs = self.separated(self.name)
-        self.need_sym(";")
+        if self.try_("WITH"):
+            e.withs = self.names()
+        self.need(";")
         u.events.append(e)
 
     def variables(self, u, side):
-        names = self.separated(self.name)
-        self.need_sym(":")
-        ty = self.type()
-        if self.try_sym(":="):
+        names, ty = self.form("names : type")
+        if self.try_(":="):
             u.inits.append((ty, self.constant()))
-        self.need_sym(";")
+        self.need(";")
         u.vars += [Bag(name=n, side=side, type=ty) for n in names]
 
     def type(self):
         """A type of a value: its class, that of its elements if it is an array, the name in it, and how it is written."""
         first, form, element = self.i, "plain", None
-        if self.try_word("ARRAY"):
-            self.need_sym("[")
-            self.separated(lambda: (self.bound(), self.need_sym(".."), self.bound()))
-            self.need_sym("]")
-            self.need_word("OF")
+        if self.try_("ARRAY"):
+            self.form("[ ranges ] OF")
             form = "array"
         name = self.name().up
         if form == "array":
             element = class_of_name(name)
-        elif self.try_sym("["):
-            self.number()
-            self.need_sym("]")
+        elif self.try_("["):
+            self.form("number ]")
             form = "length"
         cls = class_of_name(name) if form == "plain" else "O"
         return Bag(cls=cls, element=element, name=name, form=form, spelling=" ".join(t.up for t in self.t[first:self.i]))
 
+    def ranges(self):
+        return self.separated(lambda: self.form("bound .. bound"))
+
     def bound(self):
-        self.try_sym("+", "-")
+        self.try_("+", "-")
         return self.number()
 
     def constant(self):
         """A constant, with how it is written without blanks."""
         first = self.i
-        if begin := self.try_sym("["):
+        if begin := self.try_("["):
             items = self.separated(self.simple)
-            out = Bag(items=items, start=begin.start, end=self.need_sym("]").end)
+            out = Bag(items=items, start=begin.start, end=self.need("]").end)
         else:
             out = self.simple()
         out.written = "".join(t.text for t in self.t[first:self.i])
         return out
 
     def simple(self):
-        start, sign = self.here.start, self.try_sym("+", "-")
-        cls = "Free" if self.is_name() else class_of_literal(self.here)
+        start, sign = self.here.start, self.try_("+", "-")
+        cls = "Free" if self.here.name else class_of_literal(self.here)
         if cls is None or sign and not self.kind("NUMBER"):
             self.fail()
         return Bag(items=None, cls="Num" if sign and cls == "Any" else cls, start=start, end=self.take().end)
 
     # -- networks
     def instance(self, u, role):
-        n = self.name()
-        self.need_sym(":")
-        ty = self.name()
+        n, ty = self.form("name : name")
         params = self.params() if role != "sub" else []
-        self.need_sym(";")
+        self.need(";")
         u.insts.append(Bag(name=n, type=ty, role=role, params=params if role == "fb" else []))
 
     def params(self):
-        if not self.try_sym("("):
+        if not self.try_("("):
             return []
-        out = [] if self.sym(")") else self.separated(lambda: (self.name(), self.need_sym(":=") and self.constant()))
-        self.need_sym(")")
+        out = [] if self.sees(")") else self.separated(lambda: self.form("name := constant"))
+        self.need(")")
         return out
 
     def connection(self, u, sort):
-        a = self.end()
-        self.need_word("TO")
-        u.conns.append((sort, a, self.end()))
-        self.need_sym(";")
+        u.conns.append((sort, *self.form("end TO end ;")))
 
     def end(self, most=2):
         """Names with points between them, up to this number."""
         names = [self.name()]
-        while len(names) < most and self.try_sym("."):
+        while len(names) < most and self.try_("."):
             names.append(self.name())
         return Bag(names=tuple(n.up for n in names), start=names[0].start, end=names[-1].end)
 
+    def path(self):
+        return self.end(math.inf)
+
     # -- charts
     def state(self, u, _):
-        u.states.append(Bag(name=self.name(), actions=self.separated(self.action) if self.try_sym(":") else []))
-        self.need_sym(";")
+        u.states.append(Bag(name=self.name(), actions=self.separated(self.action) if self.try_(":") else []))
+        self.need(";")
 
     def action(self):
-        alg = None if self.sym("->") else self.name()
-        return alg, self.end() if self.try_sym("->") else None
+        alg = None if self.sees("->") else self.name()
+        return alg, self.end() if self.try_("->") else None
 
     def transition(self, u, _):
-        a = self.name()
-        self.need_word("TO")
-        b = self.name()
-        self.need_sym(":=")
-        u.trans.append((a, b, *self.cond()))
-        self.need_sym(";")
+        a, b, (event, guard) = self.form("name TO name := cond ;")
+        u.trans.append((a, b, event, guard))
 
     def cond(self):
         """The event and the guard of a transition, None for each that is not there."""
         if self.kind("NUMBER") and self.here.text == "1":
             self.take()
             return None, None
-        event = None if self.sym("[") else self.end()
-        if self.try_sym("["):
-            guard = self.expr(0)
-            self.need_sym("]")
-            return event, guard
-        return event, self.expr(0) if self.try_sym("&") or self.try_word("AND") else None
+        event = None if self.sees("[") else self.end()
+        if self.try_("["):
+            return event, *self.form("expr ]", 0)
+        return event, self.expr(0) if self.try_("&", "AND") else None
 
     def algorithm(self, u):
-        a = Bag(name=self.name(), body=[])
-        self.need_word("IN")
-        if self.name().up == "ST":
-            self.try_sym(":")
-            a.body = self.stmts(0)
-            self.need_word("END_ALGORITHM")
+        name, language = self.form("name IN name")
+        body = []
+        if language.up == "ST":
+            self.try_(":")
+            body, = self.form("stmts END_ALGORITHM", 0)
         else:
             self.pass_over("END_ALGORITHM")
-        u.algs.append(a)
+        u.algs.append(Bag(name=name, body=body))
 
     # -- statements, inside k others, parentheses and subscripts
     def stmts(self, k):
-        out = []
-        while s := self.stmt(k):
-            out.append(s)
-        return out
+        return list(iter(lambda: self.stmt(k), None))
 
     def stmt(self, k):
-        if self.try_sym(";"):
+        if self.sees(";") or self.try_("EXIT", "RETURN"):
+            self.need(";")
             return statement("empty")
-        if self.is_name():
-            ref = self.ref(k)
-            at = self.need_sym(":=")
-            e = self.expr(k)
-            self.need_sym(";")
-            return statement("assign", [e], ref=ref, at=at)
-        if self.try_word("EXIT", "RETURN"):
-            self.need_sym(";")
-            return statement("empty")
-        if k == DEEPEST or not self.word("IF", "CASE", "FOR", "WHILE", "REPEAT"):
+        if self.here.name:
+            ref, at = self.ref(k), self.need(":=")
+            return statement("assign", self.form("expr ;", k), ref=ref, at=at)
+        if k == DEEPEST or not self.sees("IF", "CASE", "FOR", "WHILE", "REPEAT"):
             return None
         word = self.take().up
         s = getattr(self, word.lower() + "_")(k)
-        self.need_word("END_" + word)
+        self.need("END_" + word)
         return s
 
-    def after(self, word, k):
-        self.need_word(word)
+    def inner(self, k):
         return self.stmts(k + 1)
 
     def otherwise(self, k):
-        return [self.stmts(k + 1)] if self.try_word("ELSE") else []
+        return [self.inner(k)] if self.try_("ELSE") else []
 
     def if_(self, k):
-        conds, bodies = [self.expr(k)], [self.after("THEN", k)]
-        while self.try_word("ELSIF"):
-            conds.append(self.expr(k))
-            bodies.append(self.after("THEN", k))
-        return statement("if", conds, bodies + self.otherwise(k))
+        parts = [self.form("expr THEN inner", k)]
+        while self.try_("ELSIF"):
+            parts.append(self.form("expr THEN inner", k))
+        conds, bodies = zip(*parts)
+        return statement("if", conds, [*bodies, *self.otherwise(k)])
 
     def case_(self, k):
-        e = self.expr(k)
-        self.need_word("OF")
-        bodies = [self.labelled(k)]
-        while self.sym("+", "-") or self.kind("NUMBER", "TYPED"):
+        es, bodies = self.form("expr OF", k), [self.labelled(k)]
+        while self.sees("+", "-") or self.kind("NUMBER", "TYPED"):
             bodies.append(self.labelled(k))
-        return statement("case", [e], bodies + self.otherwise(k))
+        return statement("case", es, bodies + self.otherwise(k))
 
     def labelled(self, k):
         self.separated(self.label)
-        self.need_sym(":")
-        return self.stmts(k + 1)
+        self.need(":")
+        return self.inner(k)
 
     def label(self):
         self.end_of_label()
-        if self.try_sym(".."):
+        if self.try_(".."):
             self.end_of_label()
 
     def end_of_label(self):
         return self.take() if self.kind("TYPED") else self.bound()
 
     def for_(self, k):
-        n = self.name()
-        self.need_sym(":=")
-        es = [self.expr(k)]
-        self.need_word("TO")
-        es.append(self.expr(k))
-        if self.try_word("BY"):
+        n, es = self.name(), self.form(":= expr TO expr", k)
+        if self.try_("BY"):
             es.append(self.expr(k))
-        return statement("for", es, [self.after("DO", k)], name=n)
+        return statement("for", es, self.form("DO inner", k), name=n)
 
     def while_(self, k):
-        return statement("while", [self.expr(k)], [self.after("DO", k)])
+        e, body = self.form("expr DO inner", k)
+        return statement("while", [e], [body])
 
     def repeat_(self, k):
-        body = self.stmts(k + 1)
-        self.need_word("UNTIL")
-        return statement("repeat", [self.expr(k)], [body])
+        body, e = self.form("inner UNTIL expr", k)
+        return statement("repeat", [e], [body])
 
     # -- expressions
     def ref(self, k):
         """Names with subscripts or without."""
         steps = [self.step(k)]
-        while self.try_sym("."):
+        while self.try_("."):
             steps.append(self.step(k))
         return Bag(form="ref", steps=steps, start=steps[0].name.start, end=steps[-1].end)
 
     def step(self, k):
         """name ['[' expr {',' expr} ']']"""
         name = self.name()
-        if k == DEEPEST or not self.try_sym("["):
+        if k == DEEPEST or not self.try_("["):
             return Bag(name=name, subs=None, end=name.end)
         subs = self.separated(lambda: self.expr(k + 1))
-        return Bag(name=name, subs=subs, end=self.need_sym("]").end)
+        return Bag(name=name, subs=subs, end=self.need("]").end)
 
     LEVELS = [("OR",), ("XOR",), ("&", "AND"), ("=", "<>"), ("<", ">", "<=", ">="), ("+", "-"), ("*", "/", "MOD"), ("**",)]
 
@@ -521,22 +486,22 @@ class Parser:
         if level == len(self.LEVELS):
             return self.unary(k)
         left = self.expr(k, level + 1)
-        while op := self.try_sym(*self.LEVELS[level]) or self.try_word(*self.LEVELS[level]):
+        while op := self.try_(*self.LEVELS[level]):
             right = self.expr(k, level + 1)
             left = Bag(form="operation", op=op, parts=[left, right], start=left.start, end=right.end)
         return left
 
     def unary(self, k):
-        op = self.try_sym("+", "-") or self.try_word("NOT")
+        op = self.try_("+", "-", "NOT")
         e = self.prim(k)
         return Bag(form="operation", op=op, parts=[e], start=op.start, end=e.end) if op else e
 
     def prim(self, k):
-        if self.is_name():
+        if self.here.name:
             return self.ref(k)
-        if k < DEEPEST and (begin := self.try_sym("(")):
+        if k < DEEPEST and (begin := self.try_("(")):
             e = self.expr(k + 1)
-            return Bag(form="parentheses", e=e, start=begin.start, end=self.need_sym(")").end)
+            return Bag(form="parentheses", e=e, start=begin.start, end=self.need(")").end)
         cls = class_of_literal(self.here)
         tok = self.take() if cls else self.fail()
         return Bag(form="literal", cls=cls, start=tok.start, end=tok.end)
@@ -671,10 +636,7 @@ def reached(start, following):
 
 def first(items):
     """name -> first declaration"""
-    out = {}
-    for x in items:
-        out.setdefault(x.name.up, x)
-    return out
+    return {x.name.up: x for x in reversed(items)}
 
 
 WANTED = {"plug": "adapter", "socket": "adapter", "fb": "block", "sub": "subapp"}
