@@ -79,21 +79,29 @@ def peak(process):
     return 1024 * int(re.search(r"VmHWM:\s+(\d+)", Path(f"/proc/{process.pid}/status").read_text())[1])
 
 
+def small(unit):
+    """A unit that costs nearly nothing: its name and its text."""
+    return unit, f"FUNCTION_BLOCK {unit} END_FUNCTION_BLOCK"
+
+
 class Peer:
-    """A session of a server, which sends each request at once and waits for each reply."""
+    """A session of a server, which sends each request at once and waits for each reply; `waits` has the seconds of each."""
 
     def __init__(self, port):
         self.socket = socket.create_connection(("127.0.0.1", port))
         self.socket.setsockopt(socket.IPPROTO_TCP, socket.TCP_NODELAY, 1)
-        self.stream = self.socket.makefile("rb")
+        self.stream, self.waits = self.socket.makefile("rb"), []
 
     def send(self, **request):
         self.socket.sendall(json.dumps(request).encode() + b"\n")
 
     def line(self, **request):
         """The bytes of the reply."""
+        begun = time.perf_counter()
         self.send(**request)
-        return self.stream.readline()
+        reply = self.stream.readline()
+        self.waits.append(time.perf_counter() - begun)
+        return reply
 
     def ask(self, **request):
         return json.loads(self.line(**request))
