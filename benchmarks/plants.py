@@ -60,6 +60,13 @@ def chain(length, type_name):
         yield f"S{at}", simple_subapplication(f"S{at}", [("F", type_name)], inner)
 
 
+def tree(leaf, prefix):
+    """Four levels of seven instances each, those of the first of this block type: the name and the text of each level's subapplication."""
+    yield f"{prefix}1", simple_subapplication(f"{prefix}1", [(f"P{at}", leaf) for at in range(7)], [])
+    for level in (2, 3, 4):
+        yield f"{prefix}{level}", simple_subapplication(f"{prefix}{level}", [], [(f"P{at}", f"{prefix}{level - 1}") for at in range(7)])
+
+
 def system(name, instance, type_name, mappings):
     """A system of one application with one instance, and two devices with two resources each."""
     devices = [row for device in ("NORTH", "SOUTH") for row in [
