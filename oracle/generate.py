@@ -24,6 +24,9 @@ def type_element(ty):
 
 
 class Gen:
+    # How often a change is of a unit that is there, takes it away, and declares it anew.
+    PRESENT, GONE, ANEW = 0.75, 0.15, 0.6
+
     def __init__(self, rng):
         self.r, self.subs = rng, 0
 
@@ -59,17 +62,20 @@ class Gen:
         """A library with a unit or two put again, put for the first time or removed; the plans follow."""
         lib = dict(lib)
         for _ in range(self.several(1, 2)):
-            n = self.pick(list(lib)) if self.chance(0.75) else self.pick(UNITS)
-            if n in lib and len(lib) > 1 and self.chance(0.15):
+            n = self.pick(list(lib) if self.chance(self.PRESENT) else UNITS)
+            if n in lib and len(lib) > 1 and self.chance(self.GONE):
                 del lib[n], self.plan[n]
                 continue
-            if n not in self.plan or self.chance(0.6):
-                kind = self.plan[n]["kind"] if n in self.plan and self.chance(0.6) else self.kind()
-                self.plan[n] = dict(kind=kind)
-                self.plan[n] = self.interface(kind, n)
-                self.instances(self.plan[n])
+            if n not in self.plan or self.chance(self.ANEW):
+                self.redeclare(n)
             lib[n] = self.text(n)
         return lib
+
+    def redeclare(self, n):
+        kind = self.plan[n]["kind"] if n in self.plan and self.chance(0.6) else self.kind()
+        self.plan[n] = dict(kind=kind)
+        self.plan[n] = self.interface(kind, n)
+        self.instances(self.plan[n])
 
     def several(self, low, high):
         return self.r.randint(low, high)
@@ -619,18 +625,17 @@ class Gen:
 
 def token_library(rng):
     """Units with odd characters at one place each."""
-    prefixes, suffixes, family, atoms = (TABLES[it] for it in ("prefixes", "suffixes", "family", "atoms"))
-    out = {}
+    out, atoms = {}, TABLES["atoms"]
     for n in UNITS[:8]:
         if rng.random() < 0.6:
-            i = rng.randrange(len(TABLES["structure_prefixes"]))
+            i, suffixes = rng.randrange(len(TABLES["structure_prefixes"])), TABLES["structure_suffixes"]
             odd = "".join(rng.choice(atoms + TABLES["structure_atoms"]) for _ in range(rng.randint(0, 5)))
-            start, end = TABLES["structure_prefixes"][i], TABLES["structure_suffixes"][rng.choice(TABLES["structure_family"][i])]
+            start, end = TABLES["structure_prefixes"][i], suffixes[rng.choice(TABLES["structure_family"][i])]
         else:
-            i = rng.randrange(len(prefixes))
-            j = rng.choice(family[i]) if family[i] and rng.random() < 0.75 else rng.randrange(len(suffixes))
+            i, suffixes = rng.randrange(len(TABLES["prefixes"])), TABLES["suffixes"]
+            family = TABLES["family"][i]
+            start, end = TABLES["prefixes"][i], rng.choice([suffixes[j] for j in family]) if family and rng.random() < 0.75 else rng.choice(suffixes)
             odd = "".join(rng.choice(atoms) for _ in range(rng.randint(1, 9)))
-            start, end = prefixes[i], suffixes[j]
         out[n] = start.replace("%s", n) + odd + end
     return out
 
@@ -645,30 +650,18 @@ def deep_library(rng):
     return out
 
 
-class Nets:
+class Nets(Gen):
     """Units of all kinds that hold one another as instances and carry one another as values, and nothing else."""
     HEADS = {"block": "FUNCTION_BLOCK", "subapp": "SUBAPPLICATION", "adapter": "ADAPTER", "system": "SYSTEM", "structure": "TYPE"}
-
     KINDS = ["block"] * 4 + ["subapp"] * 3 + ["system", "adapter"] + ["structure"] * 4
-
-    def __init__(self, rng):
-        self.r = rng
+    PRESENT, GONE, ANEW = 0.8, 0.2, 0.3
 
     def library(self):
-        self.plan = {n: self.r.choice(self.KINDS) for n in self.r.sample(UNITS, self.r.randint(3, 8))}
+        self.plan = {n: self.pick(self.KINDS) for n in self.r.sample(UNITS, self.several(3, 8))}
         return {n: self.text(n) for n in self.plan}
 
-    def changed(self, lib):
-        lib = dict(lib)
-        for _ in range(self.r.randint(1, 2)):
-            n = self.r.choice(list(lib) if self.r.random() < 0.8 else UNITS)
-            if n in lib and len(lib) > 1 and self.r.random() < 0.2:
-                del lib[n], self.plan[n]
-                continue
-            if n not in self.plan or self.r.random() < 0.3:
-                self.plan[n] = self.r.choice(self.KINDS)
-            lib[n] = self.text(n)
-        return lib
+    def redeclare(self, n):
+        self.plan[n] = self.pick(self.KINDS)
 
     def held(self, section, kind, low, high):
         """A section with instances of units of the kind; now and then of any name."""

@@ -178,43 +178,21 @@ class Session:
 
 # ---------------------------------------------------------------- runs
 
-class Ended(Exception):
-    """A run that ends otherwise than at the end of its input."""
-
-
-def lines_of(source):
-    """The lines of an input without their LF."""
-    while line := read_line(source):
-        line = line.removesuffix(b"\n")
-        if len(line) > LONGEST_LINE:
-            raise Ended("line too long")
-        yield line
-
-
-def read_line(source):
-    try:
-        return source.readline(LONGEST_LINE + 1)
-    except OSError:
-        raise Ended("read failed") from None
-
-
-def write(sink, reply):
-    try:
-        sink.write(reply + b"\n")
-        sink.flush()
-    except OSError:
-        raise Ended("write failed") from None
-
-
 def run(source, sink, session):
     """Answers each line; gives the status of the program and what it prints on standard error."""
+    step = "read"
     try:
-        for line in lines_of(source):
-            reply = session.reply(line)
+        while line := source.readline(LONGEST_LINE + 1):
+            if len(line.removesuffix(b"\n")) > LONGEST_LINE:
+                return 1, "bench61499: line too long\n"
+            reply = session.reply(line.removesuffix(b"\n"))
             if reply is not None:
-                write(sink, reply)
-    except Ended as ended:
-        return 1, "bench61499: %s\n" % ended
+                step = "write"
+                sink.write(reply + b"\n")
+                sink.flush()
+                step = "read"
+    except OSError:
+        return 1, "bench61499: %s failed\n" % step
     return 0, ""
 
 

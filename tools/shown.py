@@ -174,6 +174,11 @@ def edits_of(call):
     return [it for it in parts.edits() if names & set(it.calls) and (call.owner or it.crate == call.crate)]
 
 
+def edits_that(holds, row):
+    """The edits of which this holds, and those that the row names."""
+    return [it for it in parts.edits() if f"{it.crate}: {it.name}" in row.has("edits") or holds(it)]
+
+
 def makes(call, item):
     """Whether an item of a crate of tests makes the call."""
     if call.name not in item.words:
@@ -256,7 +261,7 @@ def count_tests(tests):
 
 
 def again(row):
-    return ", ".join([*(f"oracle `{it}`" for it in row.has("oracle")), *(f"plain `{it}`" for it in row.has("plain"))])
+    return ", ".join(f"{by} `{it}`" for by in ("oracle", "plain") for it in row.has(by))
 
 
 def laws_of(row):
@@ -299,14 +304,19 @@ def call_row(row, gaps):
 # ---- refusals
 
 
+def note(gaps, row, edits, tests, places=True):
+    """Notes which of these a row lacks."""
+    for gap, found in zip((*GAPS[1:3], GAPS[4]), (edits, tests, places)):
+        gaps[gap] += [] if found else row.names
+
+
 def refused_row(row, gaps):
     enum, _, variant = row.names[0].partition(".")
     has = re.compile(rf"\b{enum}::{variant}\b|\b(?:refused|delivered|answer)\\?\":\\?\"{variant}\\?\"")
-    edits = [it for it in parts.edits() if has.search(it.text) or f"{it.crate}: {it.name}" in row.has("edits")]
+    edits = edits_that(lambda it: has.search(it.text), row)
     tests = tests_that(lambda item: has.search(item.text), [variant], row)
     places = [place_of(it) for it in row.has("defined")] or parts.defining(enum, variant)
-    for gap, found in zip((*GAPS[1:3], GAPS[4]), (edits, tests, places)):
-        gaps[gap] += [] if found else row.names
+    note(gaps, row, edits, tests, places)
     return [
         f"`{variant}` of `{row.crate}: {enum}`",
         quoted(row.has("of")),
@@ -331,10 +341,9 @@ def file_of(crate, folder, stem):
 
 def code_row(row, gaps):
     (word,), calls = row.names, [parts.function(*it) for it in row.calls()]
-    edits = [it for it in parts.edits() if f"{it.crate}: {it.name}" in row.has("edits") or any(f"`{call.name}`" in it.cell for call in calls)]
-    tests = list({(it.crate, it.file, it.name): it for it, _ in parts.tests() if names_of(it) & set(row.has("tests"))}.values())
-    for gap, some in zip(GAPS[1:3], (edits, tests)):
-        gaps[gap] += [] if some else [word]
+    edits = edits_that(lambda it: any(f"`{call.name}`" in it.cell for call in calls), row)
+    tests = list({(it.crate, it.file, it.name): it for it in tests_that(None, (), row)}.values())
+    note(gaps, row, edits, tests)
     places = {"oracle": ORACLE, "plain": parts.files(f"{PLAIN}/faults/*.rs")}
     written = [name for name, paths in places.items() if any(f'"{word}"' in parts.text_of(it) for it in paths)]
     cells = [
@@ -350,10 +359,8 @@ def code_row(row, gaps):
 
 
 def limit_row(row, gaps):
-    edits = [it for it in parts.edits() if f"{it.crate}: {it.name}" in row.has("edits")]
-    tests = [it for it, _ in parts.tests() if names_of(it) & set(row.has("tests"))]
-    for gap, found in zip(GAPS[1:3], (edits, tests)):
-        gaps[gap] += [] if found else row.names
+    edits, tests = edits_that(lambda _: False, row), tests_that(None, (), row)
+    note(gaps, row, edits, tests)
     return [
         row.names[0],
         quoted(row.has("of")),
