@@ -5,12 +5,18 @@ import importlib.util
 import os
 import shutil
 import sys
+from pathlib import Path
 
 
 def kit():
     """The file of the rt that is on the path."""
     file = shutil.which("rt")
     return os.path.realpath(file) if file else sys.exit("there is no rt on the path")
+
+
+def folder():
+    """The folder of the kit."""
+    return Path(kit()).parents[1]
 
 
 def load():
