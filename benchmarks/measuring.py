@@ -6,10 +6,13 @@ import math
 import re
 import socket
 import subprocess
+import sys
 import time
 from pathlib import Path
 
 TOP = Path(__file__).resolve().parent.parent
+# The clients, and what their tests share, for the benchmarks of clients.
+sys.path += [str(TOP / "clients" / it) for it in ("tests", "python")]
 PROGRAM = str(TOP / "crates/bench61499/out/bench61499")
 BATCH = 16
 PORTS = "EVENT_INPUT I WITH X; END_EVENT EVENT_OUTPUT O WITH Y; END_EVENT VAR_INPUT X:INT; END_VAR VAR_OUTPUT Y:INT; END_VAR"

@@ -2,22 +2,14 @@
 
 Each benchmark gives the heads of a table and then its rows; it is called with what runs a script of requests and gives the least seconds and the replies."""
 from measuring import BLOCK, PORTS, Heads, ask, commit, commits, work
+from plants import row, simple_subapplication
 
-
-def row(instances, has_ports=True):
-    """The connections that join these instances, each a name, in this order, between the own ports if there are any."""
-    sources = [("I", "X")] * has_ports + [(f"{it}.O", f"{it}.Y") for it in instances]
-    destinations = [(f"{it}.I", f"{it}.X") for it in instances[0 if has_ports else 1 :]] + [("O", "Y")] * has_ports
-    events, data = (" ".join(f"{source[at]} TO {to[at]};" for source, to in zip(sources, destinations)) for at in (0, 1))
-    return f"EVENT_CONNECTIONS {events} END_CONNECTIONS DATA_CONNECTIONS {data} END_CONNECTIONS"
+SORTS = ("EVENT", "I", "O"), ("DATA", "X", "Y")
 
 
 def subapplication(name, blocks, subapplications):
     """A subapplication of these blocks and inner subapplications, pairs of a name and a type, in a row."""
-    names = [it for it, _ in [*blocks, *subapplications]]
-    fbs = "FBS " + " ".join(f"{it}:{of};" for it, of in blocks) + " END_FBS" if blocks else ""
-    subs = "SUBAPPS " + " ".join(f"{it}:{of};" for it, of in subapplications) + " END_SUBAPPS" if subapplications else ""
-    return f"SUBAPPLICATION {name} {PORTS} {fbs} {subs} {row(names)} END_SUBAPPLICATION"
+    return simple_subapplication(name, blocks, subapplications, [PORTS], SORTS)
 
 
 def flat(blocks):
@@ -95,7 +87,7 @@ def plant(groups):
     held = " ".join(f"RESOURCE R{i} : EMBEDDED END_RESOURCE" for i in range(RESOURCES))
     mapped = " ".join(f"A.{it} ON D.R{at % RESOURCES};" for at, it in enumerate(outer))
     system = (
-        f"SYSTEM P APPLICATION A SUBAPPS {' '.join(f'{it}:G;' for it in outer)} END_SUBAPPS {row(outer, has_ports=False)} END_APPLICATION "
+        f"SYSTEM P APPLICATION A SUBAPPS {' '.join(f'{it}:G;' for it in outer)} END_SUBAPPS {' '.join(row(outer, SORTS, has_ports=False))} END_APPLICATION "
         f"DEVICE D : CONTROLLER {held} END_DEVICE MAPPINGS {mapped} END_MAPPINGS END_SYSTEM"
     )
     return [("B", BLOCK), ("G", subapplication("G", [(f"F{i}", "B") for i in range(3)], [])), ("P", system)]

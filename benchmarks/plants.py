@@ -17,14 +17,14 @@ def section(word, rows):
 
 # ---------------------------------------------------------------- networks
 
-def row(names, sorts):
-    """The connections that join these instances in their order, and the first and the last of them with the own ports."""
+def row(names, sorts, has_ports=True):
+    """The connections that join these instances in their order, and the first and the last of them with the own ports, if there are any."""
     found = []
     for sort, way_in, way_out in sorts:
         sources = [way_in, *(f"{name}.{way_out}" for name in names)]
         destinations = [*(f"{name}.{way_in}" for name in names), way_out]
         joined = [f"  {source} TO {destination};" for source, destination in zip(sources, destinations)]
-        found += [f"{sort}_CONNECTIONS", *joined, "END_CONNECTIONS"]
+        found += [f"{sort}_CONNECTIONS", *(joined if has_ports else joined[1:-1]), "END_CONNECTIONS"]
     return found
 
 
@@ -35,11 +35,11 @@ def simple_block(name, number):
                  f"ALGORITHM STEP IN ST:\n  HEIGHT := LEVEL + LIMIT * {number};\nEND_ALGORITHM", "END_FUNCTION_BLOCK")
 
 
-def simple_subapplication(name, blocks, inner):
+def simple_subapplication(name, blocks, inner, ports=PORTS, sorts=(EVENT, DATA)):
     """A subapplication of these blocks and inner subapplications, pairs of a name and a type, in a row of events and data."""
     names = [instance for instance, _ in [*blocks, *inner]]
     fbs, subapps = ([f"{instance} : {type_name};" for instance, type_name in pairs] for pairs in (blocks, inner))
-    return lines(f"SUBAPPLICATION {name}", *PORTS, *section("FBS", fbs), *section("SUBAPPS", subapps), *row(names, [EVENT, DATA]), "END_SUBAPPLICATION")
+    return lines(f"SUBAPPLICATION {name}", *ports, *section("FBS", fbs), *section("SUBAPPS", subapps), *row(names, sorts), "END_SUBAPPLICATION")
 
 
 def wide(name, type_name, instances):

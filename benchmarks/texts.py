@@ -1,6 +1,8 @@
 """How long texts take, for benchmarks/tables: the reading of usual and hostile ones, the checking of large ones, edits in a library, and edits of structures.
 
 Each benchmark gives the heads of a table and then its rows; it is called with what runs a script of requests and gives the least seconds and the replies."""
+from itertools import count
+
 from carriers import SIZES, carrier, first, library, structure
 from measuring import Heads, ask, commit, commits, work
 
@@ -13,21 +15,16 @@ ALGORITHM = "FUNCTION_BLOCK A ALGORITHM G IN ST "
 END = " END_ALGORITHM END_FUNCTION_BLOCK"
 
 
-def filled(head, item, tail):
-    """A text of the whole size: the head, as many items as fit, and the tail."""
-    return (head + item * ((SIZE - len(head) - len(tail)) // len(item)) + tail).ljust(SIZE)
-
-
-def numbered(head, item, tail):
-    """The same with items that are numbered, so that their names differ."""
-    text, number = head, 0
-    while len(text) + len(tail) + len(item % number) <= SIZE:
-        text, number = text + item % number, number + 1
-    return (text + tail).ljust(SIZE)
+def filled(text, item, tail):
+    """A text of the whole size: this one, as many items as fit, each with its number if it has a place for one, and the tail."""
+    for new in map(item.format, count()):
+        if len(text) + len(new) + len(tail) > SIZE:
+            return (text + tail).ljust(SIZE)
+        text += new
 
 
 TEXTS = {
-    "usual: variables with initial values": numbered("FUNCTION_BLOCK A VAR_INPUT ", "X%d:INT:=1; ", "END_VAR END_FUNCTION_BLOCK"),
+    "usual: variables with initial values": filled("FUNCTION_BLOCK A VAR_INPUT ", "X{}:INT:=1; ", "END_VAR END_FUNCTION_BLOCK"),
     "usual: assignments": filled(ALGORITHM, "X := Y + 1; ", END),
     "open parentheses": filled(ALGORITHM + "X := ", "(", ""),
     "nested IF": filled(ALGORITHM, "IF X THEN ", ""),
@@ -98,12 +95,12 @@ FORMS = {
 def checking(run):
     """Large charts, algorithms, networks and systems: if time grows with the number of items, the microseconds of an item stay the same from row to row."""
     yield Heads(["Items of one text", "number", "reading, µs an item", "checking, µs an item"])
-    for name, form, count in ((name, form, count) for name, (form, counts) in FORMS.items() for count in counts):
-        text = form(count)
-        assert len(text) <= SIZE, (name, count, len(text))
+    for name, form, items in ((name, form, items) for name, (form, counts) in FORMS.items() for items in counts):
+        text = form(items)
+        assert len(text) <= SIZE, (name, items, len(text))
         edits = [commit("A", at + 1 if at else 0, text) for at in range(CHECKS)]
         alone, checked = (run([commit("T", 0, TYPE), *(line for it in edits for line in (it, *work(turns)))])[0] for turns in (0, 2))
-        yield [name, str(count), *(f"{it / CHECKS / count * 1e6:.2f}" for it in (alone, checked - alone))]
+        yield [name, str(items), *(f"{it / CHECKS / items * 1e6:.2f}" for it in (alone, checked - alone))]
 
 
 # ---------------------------------------------------------------- editing

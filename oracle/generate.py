@@ -24,7 +24,7 @@ def type_element(ty):
 
 
 class Gen:
-    # How often a change is of a unit that is there, takes it away, and declares it anew.
+    # How often a change is of a unit that is there, takes it away, and declares it again.
     PRESENT, GONE, ANEW = 0.75, 0.15, 0.6
 
     def __init__(self, rng):
