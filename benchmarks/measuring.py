@@ -19,11 +19,17 @@ PORTS = "EVENT_INPUT I WITH X; END_EVENT EVENT_OUTPUT O WITH Y; END_EVENT VAR_IN
 BLOCK = f"FUNCTION_BLOCK B {PORTS} END_FUNCTION_BLOCK"
 
 
-def options(about, name="program"):
-    """A reader of arguments whose help is the text at the head of a benchmark. By this name the arguments give the measured program, else the built one."""
+def options(about, name="program", **numbers):
+    """A reader of arguments whose help is the text at the head of a benchmark. By this name the arguments give the measured program, else the built one;
+    `numbers` are others with what they are if they are not named, of those without a name a list."""
     words = argparse.ArgumentParser(description=about, formatter_class=argparse.RawDescriptionHelpFormatter)
     place = {} if name.startswith("-") else {"nargs": "?"}
     words.add_argument(name, default=PROGRAM, help="crates/bench61499/out/bench61499 by default", **place)
+    for word, usual in numbers.items():
+        if isinstance(usual, list):
+            words.add_argument(word, nargs="*", type=int, default=usual)
+        else:
+            words.add_argument(f"--{word}", type=type(usual), default=usual)
     return words
 
 

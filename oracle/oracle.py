@@ -54,12 +54,12 @@ def longest(text, i):
 
 
 def tokens(text):
-    """The tokens of a text with byte places, or ("bad", start, end) of a comment without an end."""
+    """The tokens of a text with byte places."""
     at = range(len(text) + 1) if text.isascii() else [0, *accumulate(len(c.encode()) for c in text)]
     out, i = [], SKIPPED.match(text).end()
     while i < len(text):
         if text.startswith("(*", i):
-            return ("bad", at[i], at[-1])
+            raise Broken(at[i], at[-1])
         kind, end = longest(text, i)
         out.append(Tok(kind, text[i:end], at[i], at[end]))
         i = SKIPPED.match(text, end).end()
@@ -68,9 +68,12 @@ def tokens(text):
 
 # ---------------------------------------------------------------- classes
 
-I_TYPES = {"SINT", "INT", "DINT", "LINT", "USINT", "UINT", "UDINT", "ULINT"}
-W_TYPES = {"BYTE", "WORD", "DWORD", "LWORD"}
-ELEMENTARY = {"BOOL", "REAL", "LREAL", "TIME", "DATE", "TOD", "TIME_OF_DAY", "DT", "DATE_AND_TIME", "STRING", "WSTRING"} | I_TYPES | W_TYPES
+ELEMENTARY = {
+    "BOOL": "B",
+    **dict.fromkeys("SINT INT DINT LINT USINT UINT UDINT ULINT".split(), "I"),
+    **dict.fromkeys("BYTE WORD DWORD LWORD".split(), "W"),
+    **dict.fromkeys("REAL LREAL TIME DATE TOD TIME_OF_DAY DT DATE_AND_TIME STRING WSTRING".split(), "O"),
+}
 # The classes of constants that fit a class of types, and the joins of two classes that differ.
 FITTING = {"B": ("B", "Any"), "I": ("I", "Num", "Any"), "W": ("W", "Num", "Any"), "O": ("O", "I", "Num", "Any")}
 JOINS = {frozenset(("Num", it)): it for it in "IWO"} | {frozenset("IO"): "O"}
@@ -81,13 +84,7 @@ TAKEN["MOD"] = ("I", "Num", "Any")
 
 
 def class_of_name(up):
-    if up == "BOOL":
-        return "B"
-    if up in I_TYPES:
-        return "I"
-    if up in W_TYPES:
-        return "W"
-    return "Free" if up == "ANY" or up.startswith("ANY_") else "O"
+    return "Free" if up == "ANY" or up.startswith("ANY_") else ELEMENTARY.get(up, "O")
 
 
 def is_elementary(up):
@@ -95,14 +92,10 @@ def is_elementary(up):
     return up in ELEMENTARY or class_of_name(up) == "Free"
 
 
-def class_of_number(text):
-    return "O" if "." in text else "Any" if text in ("0", "1") else "Num"
-
-
 def class_of_literal(tok):
     """The class of a literal; None if the token is no literal."""
     if tok.kind == "NUMBER":
-        return class_of_number(tok.text)
+        return "O" if "." in tok.text else "Any" if tok.text in ("0", "1") else "Num"
     if tok.kind == "TYPED":
         return class_of_name(tok.up.split("#")[0])
     if tok.kind == "STRING":
@@ -509,14 +502,11 @@ class Parser:
 
 @lru_cache(maxsize=4096)
 def read(text):
-    """("tree", unit) or ("broken", start, end)"""
-    ts = tokens(text)
-    if isinstance(ts, tuple):
-        return ("broken", ts[1], ts[2])
+    """The unit of a text, or else the place at which it is broken."""
     try:
-        return ("tree", Parser(ts, len(text.encode())).unit())
+        return Parser(tokens(text), len(text.encode())).unit(), None
     except Broken as b:
-        return ("broken",) + b.span
+        return None, b.span
 
 
 # ---------------------------------------------------------------- what units mention, near and far, nets
@@ -529,15 +519,9 @@ class Library:
     def __init__(self, texts):
         self.texts, self.checked = texts, {}
 
-    def read(self, name):
-        """As read; None where the name is absent."""
-        text = self.texts.get(name)
-        return None if text is None else read(text)
-
     def tree(self, name):
         """The unit of a name, None if it is absent or broken."""
-        r = self.read(name)
-        return r[1] if r is not None and r[0] == "tree" else None
+        return read(self.texts[name])[0] if name in self.texts else None
 
     def faults(self, name):
         if name not in self.checked:
@@ -661,10 +645,10 @@ class Check:
         self.out.add((at.start, (end or at).end, code))
 
     def run(self):
-        r = self.lib.read(self.unit)
-        if r[0] == "broken":
-            return [(1, r[1], r[2])]
-        u = self.u = r[1]
+        u, broken = read(self.lib.texts[self.unit])
+        if broken:
+            return [(1, *broken)]
+        self.u = u
         self.va, self.ins = first(u.vars), first(u.insts)
         self.declarations()
         if u.kind == "system":
@@ -695,12 +679,14 @@ class Check:
         for ty, c in u.inits:
             self.fit(ty, c)
 
-    def doubled(self, names):
+    def doubled(self, places, code=3):
+        """A fault at each name or end that was there before."""
         seen = set()
-        for n in names:
-            if n.up in seen:
-                self.add(3, n)
-            seen.add(n.up)
+        for it in places:
+            key = it.up if isinstance(it, Tok) else it.names
+            if key in seen:
+                self.add(code, it)
+            seen.add(key)
 
     def type_of(self, inst):
         """The tree of an instance's type if it is usable, else None."""
@@ -729,19 +715,11 @@ class Check:
                 self.add(6, i.type)
             self.doubled([n for n, _ in i.params])
             self.params(i)
-        ins, dests, used = first(net.insts), set(), set()
+        ins = first(net.insts)
         for sort, a, b in net.conns:
             self.connection(sort, a, b, kind, ins)
-            if sort == "data":
-                if b.names in dests:
-                    self.add(16, b)
-                dests.add(b.names)
-            if sort == "adapter":
-                if a.names in used:
-                    self.add(17, a)
-                if b.names in used or b.names == a.names:
-                    self.add(17, b)
-                used.update((a.names, b.names))
+        self.doubled([b for sort, _, b in net.conns if sort == "data"], 16)
+        self.doubled([end for sort, *ends in net.conns if sort == "adapter" for end in ends], 17)
 
     def params(self, i):
         t = self.type_of(i)
@@ -795,11 +773,9 @@ class Check:
             self.network(a, "app")
         for d in u.devices:
             self.doubled(d.resources)
-        devices, paths = first(u.devices), set()
-        for path, dev, res in u.mappings:
-            if path.names in paths:
-                self.add(21, path)
-            paths.add(path.names)
+        self.doubled([path for path, *_ in u.mappings], 21)
+        devices = first(u.devices)
+        for _, dev, res in u.mappings:
             d = devices.get(dev.up)
             if d is None or res.up not in [r.up for r in d.resources]:
                 self.add(22, dev, res)

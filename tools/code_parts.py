@@ -3,6 +3,7 @@ import functools
 import glob
 import os
 import re
+from collections import defaultdict
 from dataclasses import dataclass
 
 TOP = os.path.dirname(os.path.dirname(os.path.abspath(__file__)))
@@ -72,14 +73,9 @@ def files(pattern):
 
 def line_of(path, name):
     """The line at which a file of code or of definitions defines the name, or else the first that has it. None if no line has it."""
-    lines = text_of(path).split("\n")
-    defines = re.compile(rf"\b(?:fn|struct|enum|trait|const|static|abbrev|unfoldable|record|data|def)\s+(?:pub\s+)?{re.escape(name)}\b")
-    has = re.compile(rf"\b{re.escape(name)}\b")
-    for form in (defines, has):
-        for number, line in enumerate(lines, 1):
-            if form.search(line):
-                return number
-    return None
+    lines, has = text_of(path).split("\n"), rf"\b{re.escape(name)}\b"
+    defines = rf"\b(?:fn|struct|enum|trait|const|static|abbrev|unfoldable|record|data|def)\s+(?:pub\s+)?{re.escape(name)}\b"
+    return next((number for form in (defines, has) for number, line in enumerate(lines, 1) if re.search(form, line)), None)
 
 
 @functools.cache
@@ -112,10 +108,7 @@ def head_at(lines, at, indent):
 
 
 def end_of_body(lines, at, indent):
-    for place in range(at, len(lines)):
-        if lines[place] in (f"{indent}}}", f"{indent}{{}}"):
-            return place + 1
-    return len(lines)
+    return next((place + 1 for place in range(at, len(lines)) if lines[place] in (f"{indent}}}", f"{indent}{{}}")), len(lines))
 
 
 def listed(module, items):
@@ -288,12 +281,8 @@ def cited(it):
 def defining(enum, word):
     """The definitions that name a variant of an enum: a crate, a file and a name for each."""
     has = re.compile(rf"(?<!\w){word}(?!\w)")
-    found = []
-    for crate in crates():
-        for (file, name), text in definitions(crate).items():
-            if name != word and f".{enum}.TheVariants" in heads(crate).get(file, "") and has.search(text):
-                found.append((crate, file, name))
-    return found
+    there = ((crate, *place, text) for crate in crates() for place, text in definitions(crate).items())
+    return [(crate, file, name) for crate, file, name, text in there if name != word and f".{enum}.TheVariants" in heads(crate).get(file, "") and has.search(text)]
 
 
 @functools.cache
@@ -336,13 +325,8 @@ def rows_of_edits(crate):
 
 @functools.cache
 def edits():
-    found = []
-    for crate in crates():
-        for folder, name, cell, promise in rows_of_edits(crate):
-            path = f"crates/{crate}/{folder}/{name}.edit"
-            text = text_of(path) if os.path.isfile(f"{TOP}/{path}") else ""
-            found.append(Edit(crate, folder, name, cell, calls_in(cell), text, promise))
-    return found
+    rows = [(crate, *row) for crate in crates() for row in rows_of_edits(crate)]
+    return [Edit(*place, cell, calls_in(cell), "".join(map(text_of, files("crates/{}/{}/{}.edit".format(*place)))), promise) for *place, cell, promise in rows]
 
 
 # ---- tests
@@ -385,10 +369,9 @@ def tests():
 @functools.cache
 def helpers(crate):
     """The items of a crate of tests that are no tests, by file and name."""
-    found = {}
+    found = defaultdict(list)
     for it in test_items(crate):
-        if not it.is_test:
-            found.setdefault((it.file, it.name), []).append(it)
+        found[it.file, it.name] += [] if it.is_test else [it]
     return found
 
 

@@ -1,4 +1,5 @@
 """What the last whole run of the gate took, from its file in docs/gate, for the tools of this folder and the tables of docs/GATE.md."""
+import csv
 import glob
 import os
 import re
@@ -20,8 +21,7 @@ def rows_of(file):
     """The rows of a file with a line on what it is, a line that names its columns, and cells with tabs between them."""
     with open(file, encoding="utf-8") as lines:
         next(lines)
-        names = next(lines).rstrip("\n").split("\t")
-        return [dict(zip(names, line.rstrip("\n").split("\t"))) for line in lines]
+        return list(csv.DictReader(lines, delimiter="\t", quoting=csv.QUOTE_NONE))
 
 
 def last_run():

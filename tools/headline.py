@@ -186,13 +186,9 @@ def defined(path, name):
 def in_file(path, name):
     """The definition that a name means in a file."""
     file = read(path)
-    if name in file.items:
-        return file.items[name]
-    for it in file.items.values():
-        if name in it.members:
-            return it
-    if name in file.names:
-        return defined(*file.names[name])
+    its = file.items.get(name) or next((it for it in file.items.values() if name in it.members), None)
+    if its or name in file.names:
+        return its or defined(*file.names[name])
     first, _, last = name.rpartition(".")
     return defined(file.modules[first], last) if first in file.modules else None
 

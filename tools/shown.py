@@ -2,7 +2,7 @@
 import functools
 import os
 import re
-from collections import Counter
+from collections import Counter, defaultdict
 from dataclasses import dataclass
 
 import code_parts as parts
@@ -197,13 +197,13 @@ def sends(request, item):
 @functools.cache
 def users():
     """The items of the crates of tests under each of their words, and the places of the tests that use an item by its id."""
-    by_word, by_item = {}, {}
+    by_word, by_item = defaultdict(list), defaultdict(list)
     for item in (it for crate in parts.crates() if crate.endswith("_tests") for it in parts.test_items(crate)):
         for word in item.words:
-            by_word.setdefault(word, []).append(item)
+            by_word[word].append(item)
     for at, (_, items) in enumerate(parts.tests()):
         for item in items:
-            by_item.setdefault(id(item), []).append(at)
+            by_item[id(item)].append(at)
     return by_word, by_item
 
 
