@@ -130,11 +130,7 @@ class Gen:
         return self.pick(list(self.plan) + UNITS + ["NOPE"])
 
     def some_instances(self, roles, low, high):
-        out = []
-        for n in self.distinct(INSTS, low, high):
-            role = self.pick(roles)
-            out.append((n, role, self.of_kind(role)))
-        return out
+        return [(n, role := self.pick(roles), self.of_kind(role)) for n in self.distinct(INSTS, low, high)]
 
     def instances(self, p):
         k = p["kind"]

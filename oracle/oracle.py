@@ -629,11 +629,11 @@ GIVES = {"in": False, "out": True, "socket": False, "plug": True}
 
 
 def port(sort, unit, name, is_inside):
-    """Of a port of a unit, seen from inside or outside, whether it gives, and its type; 13 if there is none."""
+    """Of a port of a unit, seen from inside or outside, whether it gives, and its type; None for both if there is none."""
     it = first({"event": unit.events, "data": unit.vars, "adapter": unit.insts}[sort]).get(name)
     gives = it and GIVES.get(it.role if sort == "adapter" else it.side)
     if gives is None:
-        return 13
+        return None, None
     return gives != is_inside, {"event": lambda: None, "data": lambda: it.type, "adapter": lambda: it.type.up}[sort]()
 
 
@@ -747,22 +747,16 @@ class Check:
 
     def judge(self, sort, end, is_source, kind, ins):
         """The code of an end's fault and None, or nothing and its type; True if the end is not checked."""
-        found = self.place(sort, end, kind, ins)
-        if not isinstance(found, tuple):
-            return found or True, None
-        gives, ty = found
-        return (None, ty) if gives == is_source else (14, None)
-
-    def place(self, sort, end, kind, ins):
-        """What port() has of an end; None if the type of its instance can't be used."""
-        name, *inner = end.names
-        if not inner:
-            return 13 if kind == "app" else port(sort, self.u, name, True)
-        i = ins.get(name)
-        if i is None or i.role in ("plug", "socket") and (kind != "block" or sort == "adapter"):
-            return 13
-        t = self.type_of(i)
-        return t and port(sort, t, inner[0], i.role == "plug")
+        i = ins.get(end.names[0])
+        if len(end.names) == 1:
+            unit, is_inside, is_there = self.u, True, kind != "app"
+        else:
+            is_there = i is not None and (i.role not in ("plug", "socket") or kind == "block" and sort != "adapter")
+            unit, is_inside = (self.type_of(i), i.role == "plug") if is_there else (None, False)
+        if is_there and unit is None:
+            return True, None
+        gives, ty = port(sort, unit, end.names[-1], is_inside) if is_there else (None, None)
+        return (13, None) if gives is None else (None, ty) if gives == is_source else (14, None)
 
     # -- systems
     def system(self):

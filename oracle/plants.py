@@ -140,12 +140,10 @@ class Plant(Gen):
         return [[*" . ".join(path).split(), "ON", *self.pick(resources), ";"] for path in paths]
 
     def paths(self, path, insts, depth):
-        out = []
         for name, role, kind in insts:
-            out.append(path + [name])
+            yield path + [name]
             if role == "sub" and depth and kind in self.plan:
-                out += self.paths(path + [name], self.plan[kind]["insts"], depth - 1)
-        return [it for it in out if len(it) > 1]
+                yield from self.paths(path + [name], self.plan[kind]["insts"], depth - 1)
 
 
 def large(rng):
