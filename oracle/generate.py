@@ -26,6 +26,8 @@ def type_element(ty):
 class Gen:
     # How often a change is of a unit that is there, takes it away, and declares it again.
     PRESENT, GONE, ANEW = 0.75, 0.15, 0.6
+    # How often there are no connections of a sort, and an empty section of them.
+    UNJOINED, EMPTY = 0.3, 0.2
 
     def __init__(self, rng):
         self.r, self.subs = rng, 0
@@ -336,23 +338,26 @@ class Gen:
 
     def connections(self, p, insts, kind):
         out = []
-        for sort, kw in (("event", "EVENT_CONNECTIONS"), ("data", "DATA_CONNECTIONS"), ("adapter", "ADAPTER_CONNECTIONS")):
-            if self.chance(0.3):
+        for sort in ("event", "data", "adapter"):
+            if self.UNJOINED and self.chance(self.UNJOINED):
                 continue
-            ends = self.ends(p if kind != "app" else None, insts, kind, sort)
-            items, made = [], []
-            for _ in range(self.several(0, 5)):
-                a = self.an_end(ends, "from", insts, None, made)
-                b = a and self.an_end(ends, "to", insts, a[2], made)
-                if a is None or b is None or self.noise < 0.5 and a[2] != b[2] and self.chance(0.9):
-                    continue
-                made += [a, b]
-                items.append(a[0] + ["TO"] + b[0] + [";"])
-            if items or self.chance(0.2):
-                out += self.split(kw, items, "END_CONNECTIONS")
+            items = self.joined(self.ends(p if kind != "app" else None, insts, kind, sort), sort, kind)
+            if items or self.chance(self.EMPTY):
+                out += self.split(sort.upper() + "_CONNECTIONS", items, "END_CONNECTIONS")
         return out
 
-    def an_end(self, ends, side, insts, ty, made):
+    def joined(self, ends, *_):
+        items, made = [], []
+        for _ in range(self.several(0, 5)):
+            a = self.an_end(ends, "from", None, made)
+            b = a and self.an_end(ends, "to", a[2], made)
+            if a is None or b is None or self.noise < 0.5 and a[2] != b[2] and self.chance(0.9):
+                continue
+            made += [a, b]
+            items.append(a[0] + ["TO"] + b[0] + [";"])
+        return items
+
+    def an_end(self, ends, side, ty, made):
         x = self.r.random()
         right = [e for e in ends if e[1] == side]
         x = 0.5 if not self.bad(1) else x

@@ -13,6 +13,8 @@ NOISE = [0.0, 0.0, 0.0, 0.02, 0.1]
 
 
 class Plant(Gen):
+    UNJOINED, EMPTY = 0, 0.1
+
     def __init__(self, rng):
         super().__init__(rng)
         self.noise, self.odd = rng.choice(NOISE), None
@@ -95,14 +97,6 @@ class Plant(Gen):
 
     def chart(self, p):
         return super().chart(p) if self.chance(0.05) else []
-
-    def connections(self, p, insts, kind):
-        out = []
-        for sort, word in (("event", "EVENT_"), ("data", "DATA_"), ("adapter", "ADAPTER_")):
-            items = self.joined(self.ends(p if kind != "app" else None, insts, kind, sort), sort, kind)
-            if items or self.chance(0.1):
-                out += self.split(word + "CONNECTIONS", items, "END_CONNECTIONS")
-        return out
 
     def joined(self, ends, sort, kind):
         """Connections of these ends that fit: mostly one to each destination, of events perhaps two."""
