@@ -2,6 +2,7 @@
 from __future__ import annotations
 
 import os
+import re
 import threading
 import time
 import unittest
@@ -154,7 +155,7 @@ class KnowingTest(ComparingTest):
     def test_the_age_of_a_change_is_told_anew(self) -> None:
         editor = self.opened(GOOD)
         self.other.commit([Put("A", 1, BAD)])
-        while not any(int(it["message"].split()[-3]) >= 5 for it in editor.shown["A.fb"] if it["severity"] == 3):
+        while not any(re.search(r" ([5-9]|\d\d+) s ago; you are session \d+$", it["message"]) for it in editor.shown["A.fb"]):
             editor.read()
 
     def test_a_unit_is_removed_by_somebody_else(self) -> None:

