@@ -166,7 +166,7 @@ fn is_enough(head: &[u8], secret: &[u8]) -> bool {
 }
 
 /// Reads until enough has come, the input ends, or `FIRST_LINE_SIZE` bytes have come. False if none of these came in time.
-fn has_head<R: Wait + Clock>(
+fn has_head<R: Clock>(
     rt: &R,
     connection: &mut Connection,
     host: &HostState,
@@ -183,7 +183,7 @@ fn has_head<R: Wait + Clock>(
         }
         match read_head(rt, connection, begun, timeout, &mut buffer) {
             Some(0) => return true,
-            Some(_) => host.waiting.begin(rt, connection.number),
+            Some(_) => {}
             None => return false,
         }
     }

@@ -1,17 +1,15 @@
 //! The connections whose first line is waited for, and which of them gives way if there are too many.
-ghost use Rattle.std.specs.Prelude.{◌≡◌, ◌<◌, IfSome, Some, length, not};
-ghost use Rattle.std.specs.List.{position};
+ghost use Rattle.std.specs.Prelude.{◌≡◌, ◌<◌, IfSome, length};
 
 use std::alloc::Global;
 use std::net::{Shutdown, TcpStream};
 use std::sync::{Mutex, Wait};
 
-/// A connection whose first line is waited for, by a second hold of its stream, and whether a byte of it has come.
+/// A connection whose first line is waited for, by a second hold of its stream.
 #[derive(Drop)]
 struct Waiting {
     number: u64,
     stream: TcpStream,
-    has_begun: bool,
 }
 
 /// The connections that wait, in the order in which they came, and the number of the last one.
@@ -22,24 +20,13 @@ struct WaitingState {
 }
 
 impl WaitingState {
-    /// The place of the first one of which no byte has come.
-    fn first_silent(&self) -> Option<usize>
-        ensures there { IfSome result (λ place. place < length self.now.waiting.items) }
-        ensures first { result ≡ position (λ it. not it.has_begun) self.now.waiting.items }
-    {
-        self.waiting.iter().position(|it| !it.has_begun)
-    }
-
-    /// The place of the one that has waited longest without a byte; if a byte of each has come, the place of the first one.
+    /// The place of the one that has waited longest. Whether a byte of it has come makes no difference: one byte is as cheap as none, and a client with the
+    /// secret sends nothing before it has its challenge.
     fn longest(&self) -> Option<usize>
-        ensures there { IfSome result (λ place. place < length self.now.waiting.items) }
-        ensures silent { IfSome (position (λ it. not it.has_begun) self.now.waiting.items)
-            (λ place. result ≡ Some place) }
+        ensures first { IfSome result (λ place.
+            (place ≡ 0) × (place < length self.now.waiting.items)) }
     {
-        match self.first_silent() {
-            Some(place) => Some(place),
-            None => (!self.waiting.is_empty()).then_some(0),
-        }
+        (!self.waiting.is_empty()).then_some(0)
     }
 
     fn place_of(&self, number: u64) -> Option<usize>
@@ -79,24 +66,12 @@ impl WaitingRoom {
         };
         let mut state = self.state.lock(rt);
         let number = state.last.saturating_add(1);
-        let waiting = Waiting {
-            number,
-            stream,
-            has_begun: false,
-        };
+        let waiting = Waiting { number, stream };
         if state.waiting.push(waiting).is_err() {
             return 0;
         }
         state.last = number;
         number
-    }
-
-    /// Notes that a byte of the connection of this number has come.
-    pub(crate) fn begin<R: Wait>(&self, rt: &R, number: u64) {
-        let mut state = self.state.lock(rt);
-        for waiting in &mut state.waiting {
-            waiting.has_begun |= waiting.number == number;
-        }
     }
 
     /// The connection of this number waits no longer. Whether it has not had to give way.
@@ -120,7 +95,7 @@ impl WaitingRoom {
         state.waiting.clear();
     }
 
-    /// Ends the connection that has waited longest, one without a byte before all others, if one waits. The thread that waits for it is then free soon.
+    /// Ends the connection that has waited longest, if one waits. The thread that waits for it is then free soon.
     pub(crate) fn end_longest<R: Wait>(&self, rt: &R) {
         let mut state = self.state.lock(rt);
         if let Some(place) = state.longest() {

@@ -27,6 +27,17 @@ each 0 to 99 is challenged
 100 asks {"op":"take"} => {"job":0}
 each 0 to 99 is closed
 100 leaves
+
+== Peers that have sent a byte keep out nobody who still waits for the challenge / secret sesame / connections 1 / calls 1, 1 / errors bench61499: connections turned away: 33, for a wrong secret: 0
+each 0 to 31 is challenged
+each 0 to 31 says x
+connect 1
+33 is challenged
+32 proves sesame => proved
+32 asks {"op":"take"} => {"job":0}
+each 0 to 31 is closed
+33 is closed
+32 leaves
 "#;
 
 const GOING_ON: &str = r#"
