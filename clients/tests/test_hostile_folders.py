@@ -4,6 +4,7 @@ from __future__ import annotations
 import os
 import shutil
 import sqlite3
+import struct
 import subprocess
 import unittest
 from collections.abc import Iterator
@@ -216,6 +217,41 @@ class StateTest(HostileTest):
             ran = run("sync", "plant", "--connect", f":{port}", "--pull", folder=self.folder)
             told = "sync: plant/.bench61499/state.sqlite: has other tables than those of sync, and may come from elsewhere; remove it\n"
             self.assertEqual((ran.returncode, ran.stderr), (2, told))
+
+    def interrupt(self) -> Path:
+        """Leaves a change half made, and gives the journal by which it is taken back."""
+        Store(self.plant).close()
+        journal = self.state.with_name("state.sqlite-journal")
+        with closing(sqlite3.connect(self.state, isolation_level=None)) as tables:
+            tables.executescript("PRAGMA synchronous = OFF; BEGIN; INSERT INTO workbench VALUES ('x')")
+            left = journal.read_bytes()
+        journal.write_bytes(left)
+        return journal
+
+    def test_a_journal_has_no_other_file_removed(self) -> None:
+        journal, other = self.interrupt(), self.write("letter.txt", b"1")
+        ordinary, name = journal.read_bytes(), os.fsencode(other)
+        named = struct.pack(">I", (1 << 30) // 4_096 + 1) + name + struct.pack(">II", len(name), sum(name)) + ordinary[:8]
+        journal.write_bytes(ordinary + named)
+        with self.assertRaisesRegex(Misuse, "journal: is no journal of sync"):
+            Store(self.plant)
+        self.assertTrue(other.exists())
+        journal.write_bytes(ordinary)
+        Store(self.plant).close()
+        self.assertEqual((other.exists(), journal.exists()), (True, False))
+
+    def test_what_is_kept_stays_in_the_folder(self) -> None:
+        away = self.folder / "away"
+        away.mkdir()
+        opened = Store(self.plant)
+        (opened.kept / "A").symlink_to(away)
+        self.assertRaises(OSError, opened.keep, "A", "1.fb")
+        opened.close()
+        (opened.kept / "_").symlink_to(away)
+        (opened.drafts / "login.desktop").write_text("Exec=evil")
+        with self.assertRaisesRegex(Misuse, "kept/_ is a link, and has to be none"):
+            Store(self.plant)
+        self.assertEqual(list(away.iterdir()), [])
 
     def test_a_dry_run_copies_nothing_that_a_link_leads_to(self) -> None:
         self.state.unlink()

@@ -172,6 +172,11 @@ class ReporterTest(InFolder):
         (self.state / "editors" / "link").symlink_to(self.write("B.fb", "text"))
         self.assertEqual((opened_in(self.state), left.exists()), ({}, False))
 
+    def test_files_that_a_link_leads_to_are_no_reports(self) -> None:
+        other = self.write("away/letter.txt", b"1")
+        (self.state / "editors").symlink_to(other.parent)
+        self.assertEqual((opened_in(self.state), other.exists()), ({}, True))
+
     def test_a_link_leads_nowhere(self) -> None:
         (self.folder / "other").mkdir()
         (self.state / "editors").symlink_to(self.folder / "other")

@@ -74,7 +74,7 @@ def _kept_folder(path: Path) -> Path | None:
 
 def _made(folder: Path) -> tuple[Path, int]:
     """A new file, which is locked. A folder that is a link could lead anywhere."""
-    if folder.is_symlink() or folder.parent.is_symlink():
+    if _is_link(folder):
         raise OSError(f"{folder} is a link")
     folder.mkdir(exist_ok=True)
     while True:
@@ -86,13 +86,18 @@ def _made(folder: Path) -> tuple[Path, int]:
         os.close(number)  # A sync took it for one that was left.
 
 
+def _is_link(folder: Path) -> bool:
+    return folder.is_symlink() or folder.parent.is_symlink()
+
+
 def opened_in(state: Path) -> dict[str, Opened]:
-    """What is open in editors, by file, as far as it is reported in the `.bench61499` of a folder."""
+    """What is open in editors, by file, as far as it is reported in the `.bench61499` of a folder. Files that a link leads to are no reports: they would be removed."""
+    folder = state / FOLDER
     try:
-        files = sorted(os.listdir(state / FOLDER))[:MOST_SERVERS]
+        files = [] if _is_link(folder) else sorted(os.listdir(folder))[:MOST_SERVERS]
     except OSError:
         return {}
-    return {name: it for file in files for name, it in _read(state / FOLDER / file)}
+    return {name: it for file in files for name, it in _read(folder / file)}
 
 
 def _read(file: Path) -> Iterator[tuple[str, Opened]]:

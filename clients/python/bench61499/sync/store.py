@@ -1,6 +1,7 @@
 """What is known of a folder between two runs: which texts were last common, what is in question, and what was written over."""
 from __future__ import annotations
 
+import errno
 import fcntl
 import os
 import sqlite3
@@ -18,6 +19,9 @@ NAME = ".bench61499"
 """The folder inside the folder."""
 STATE = "state.sqlite"
 """The file in it that has all but the texts that were written over."""
+_JOURNAL = f"{STATE}-journal"
+_NAMING = bytes.fromhex("d9d505f920a163d7")
+"""What a journal of SQLite ends with if it has the name of a further file, which SQLite removes. For one database there is none."""
 _FORM = 1
 _TABLES = """
 CREATE TABLE IF NOT EXISTS workbench (identity TEXT NOT NULL);
@@ -61,6 +65,7 @@ class Store:
 
     def _prepare(self) -> None:
         refuse_links(self.folder)
+        refuse_naming(self.folder / _JOURNAL)
         for folder in (self.folder, self.drafts, self.kept):
             folder.mkdir(exist_ok=True)
         ignored = self.folder / ".gitignore"
@@ -176,9 +181,11 @@ class Store:
             self._tables.execute("DELETE FROM conflict WHERE unit = ?", (unit,))
 
     def keep(self, unit: str, words: str) -> Path:
-        """A name for what is written over; nothing has it yet."""
+        """A name for what is written over; nothing has it yet. Raises `OSError` if its folder is a link, which could lead anywhere."""
         folder = self.kept / unit
         folder.mkdir(exist_ok=True)
+        if link := next((it for it in (self.kept, folder) if it.is_symlink()), None):
+            raise OSError(errno.ELOOP, f"{link} is a link, and has to be none")
         moment = datetime.now(UTC).strftime("%Y%m%dT%H%M%S.%f")
         return folder / f"{moment}-{words}"
 
@@ -188,6 +195,19 @@ def refuse_links(folder: Path) -> None:
     there = folder.iterdir() if folder.exists() else ()
     if link := next((it for it in (folder, *there) if it.is_symlink()), None):
         raise Misuse(f"{link}: is a link, and has to be none")
+
+
+def refuse_naming(journal: Path) -> None:
+    """Raises `Misuse` if a journal has SQLite remove a file that it names, or is no file: it may come from elsewhere."""
+    if not os.path.lexists(journal):
+        return
+    is_fit = journal.is_file()
+    if is_fit:
+        with open(journal, "rb") as stream:
+            stream.seek(max(0, os.fstat(stream.fileno()).st_size - len(_NAMING)))
+            is_fit = stream.read() != _NAMING
+    if not is_fit:
+        raise Misuse(f"{journal}: is no journal of sync, and may come from elsewhere; remove it")
 
 
 def is_of_sync(tables: sqlite3.Connection) -> bool:
