@@ -203,6 +203,22 @@ class GitTest(LogTest):
             self.printed(port, "--git", self.history)
         self.assertFalse((self.folder / "ran").exists())
 
+    def test_a_history_from_elsewhere_writes_nothing_elsewhere(self) -> None:
+        """Through a link git would append a line to a file of the user, with a name in it that the history chooses."""
+        profile = self.write("profile", "alias l=ls\n")
+        with hosting() as port, Session.connect("127.0.0.1", port) as session:
+            session.commit([Put("A", 0, text("A"))])
+            self.printed(port, "--git", self.history)
+            session.commit([Put("A", 1, text("A", "again"))])
+            log, common = (self.history / ".git" / name for name in ("logs/refs/heads/workbench", "commondir"))
+            log.unlink()
+            for it, make in (log, lambda: log.symlink_to(profile)), (common, lambda: common.write_text("../other\n")):
+                make()
+                self.refused(port, f"{it}: by it git would write elsewhere; remove it, or name another folder", "--git", self.history)
+                it.unlink()
+            self.printed(port, "--git", self.history)
+        self.assertEqual(profile.read_text(), "alias l=ls\n")
+
     def test_without_git_it_says_so(self) -> None:
         with hosting() as port:
             (self.folder / "python3").symlink_to(shutil.which("python3") or "")

@@ -5,7 +5,7 @@ import os
 import re
 import shutil
 import subprocess
-from collections.abc import Iterable, Mapping
+from collections.abc import Iterable, Iterator, Mapping
 from pathlib import Path
 
 from bench61499 import Commit, Revision, Session, Text
@@ -38,6 +38,8 @@ class Repository:
             is_empty = not any(folder.iterdir())
         except OSError as error:
             raise Misuse(f"{folder}: can't be used: {error.strerror}") from error
+        if other := next(_leading_out(folder / ".git"), None):
+            raise Misuse(f"{other}: by it git would write elsewhere; remove it, or name another folder")
         if is_empty:
             self._git("init", "--quiet", f"--initial-branch={BRANCH.rpartition('/')[2]}")
             self._git("config", _MARK, "true")
@@ -127,6 +129,12 @@ class Repository:
         if ran.returncode and not may_fail:
             raise Misuse(f"git {words[0]} failed: {ran.stderr.decode(errors='replace').strip()}")
         return ran.stdout.decode(errors="replace")
+
+
+def _leading_out(git: Path) -> Iterator[Path]:
+    """What has git write outside of its folder, which may come from elsewhere: links, through which it even appends lines to files, and the name of a folder in the place of this one."""
+    inner = (Path(folder, name) for folder, folders, files in os.walk(git) for name in (*folders, *files))
+    return (it for it in (git, *inner) if it.is_symlink() or it == git / "commondir")
 
 
 def _data(content: bytes) -> bytes:
