@@ -818,6 +818,13 @@ class StrangersTest(BoardTest):
             self.edit("LAMP.fb", "VAR_INPUT VALUE", "VAR_INPUT VALU")
             viewer.until(lambda it: it.state("LAMP") == "faulty")
 
+    def test_a_head_without_end_is_not_kept(self) -> None:
+        at = self.conveyor()
+        for lines, expected in (1, b" 403 "), (3, b" 431 "):
+            head = b"GET / HTTP/1.1\r\n" + lines * (b"X: " + 65_000 * b"a" + b"\r\n")
+            answer = at.raw(head + b"\r\n" * (lines == 1))
+            self.assertIn(expected, answer.splitlines()[0], lines)
+
     def test_more_viewers_than_there_is_room_for(self) -> None:
         at = self.conveyor()
         with ExitStack() as stack:

@@ -165,7 +165,7 @@ class KeptTest(ExchangeTest):
         self.write("outside/F.fbt", "mine")
         (self.folder / "out").mkdir()
         (self.folder / "out" / "link").symlink_to(self.folder / "outside")
-        for path, expected in (("../F.fbt", "out/F.fbt"), ("/tmp/F.fbt", "out/F.fbt"), ("a/../../F.fbt", "out/F.fbt"), ("F.sh", "out/F.fbt"), ("a/G.fbt", "out/a/G.fbt"), ("link/F.fbt", "")):
+        for path, expected in (("../F.fbt", "out/F.fbt"), ("/tmp/F.fbt", "out/F.fbt"), ("a/../../F.fbt", "out/F.fbt"), ("F.sh", "out/F.fbt"), ("a/G.fbt", "out/a/G.fbt"), ("link/F.fbt", ""), ("link/b/F.fbt", "")):
             for it in self.folder.glob("out/**/*.fbt"):
                 if "link" not in it.parts:
                     it.unlink()
@@ -174,8 +174,8 @@ class KeptTest(ExchangeTest):
                 ran = exported(["lib"], Path("out"), replace=True)
             found = [it.relative_to(self.folder).as_posix() for it in self.folder.glob("out/**/*.fbt") if "link" not in it.parts]
             self.assertEqual(found, [expected] if expected else [])
-            self.assertEqual(ran.errors, [] if expected else ["out/link/F.fbt: would not be in out"])
-        self.assertEqual((self.folder / "outside/F.fbt").read_text(), "mine")
+            self.assertEqual(ran.errors, [] if expected else [f"out/{path}: would not be in out"])
+        self.assertEqual({it.name: it.is_file() and it.read_text() for it in (self.folder / "outside").iterdir()}, {"F.fbt": "mine"})
 
 
 if __name__ == "__main__":

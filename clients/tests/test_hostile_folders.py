@@ -9,6 +9,7 @@ import subprocess
 import unittest
 from collections.abc import Iterator
 from contextlib import closing, contextmanager
+from pathlib import Path
 from unittest.mock import patch
 
 from exchanging import imported

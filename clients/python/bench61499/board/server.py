@@ -7,6 +7,7 @@ refuses all others: a page of another site can't read the board, not even where 
 from __future__ import annotations
 
 import hmac
+import io
 import json
 import re
 import secrets
@@ -14,6 +15,7 @@ import socket
 import threading
 import time
 from http import HTTPStatus
+from http.client import HTTPException
 from http.server import BaseHTTPRequestHandler, ThreadingHTTPServer
 from math import inf, nan
 from pathlib import Path
@@ -30,6 +32,8 @@ from bench61499.language.levels import AUTO
 HERE = Path(__file__).parent
 BODY_LIMIT = 1_024
 PATH_LIMIT = 32_768
+HEAD_LIMIT = 131_072
+"""Bytes of the head of a request, which anybody may send."""
 NO_NAME = f"a name is a letter or _, then letters, digits and _, at most {NAME_LIMIT} of them"
 GATHER = 0.03
 """Seconds in which news are gathered into one event."""
@@ -155,11 +159,34 @@ def read_page() -> str:
     return re.sub("|".join(parts), lambda found: parts[found[0]], page)
 
 
+class Heads(io.BufferedReader):
+    """What a connection sends, of which a head may have `left` bytes more."""
+
+    left = 0
+
+    def readline(self, most: int | None = -1) -> bytes:
+        line = super().readline(most)
+        self.left -= len(line)
+        if self.left < 0:
+            raise HTTPException("the head is too long")
+        return line
+
+
 class _Handler(BaseHTTPRequestHandler):
     server: BoardServer
+    rfile: Heads
     protocol_version = "HTTP/1.1"
     server_version, sys_version = "bench61499", ""
     timeout = 60
+
+    def setup(self) -> None:
+        super().setup()
+        self.rfile.close()
+        self.rfile = Heads(self.connection.makefile("rb", 0))
+
+    def handle_one_request(self) -> None:
+        self.rfile.left = HEAD_LIMIT
+        super().handle_one_request()
 
     def do_GET(self) -> None:
         self._answer({"/": self._page, "/events": self._events, "/unit": self._unit, "/net": self._net, "/plan": self._plan,

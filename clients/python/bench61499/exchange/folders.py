@@ -29,9 +29,9 @@ class Target:
         assert not {"", ".", ".."} & set(place.split("/"))
         file = self.folder / place
         try:
-            file.parent.mkdir(parents=True, exist_ok=True)
             if not file.parent.resolve().is_relative_to(self.folder.resolve()):
                 raise Unwritable(f"{file}: would not be in {self.folder}")
+            file.parent.mkdir(parents=True, exist_ok=True)
             if not os.path.lexists(file):
                 create(file, content)
             elif not self._is_there(file, content, is_same):

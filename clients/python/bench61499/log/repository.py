@@ -38,8 +38,8 @@ class Repository:
             is_empty = not any(folder.iterdir())
         except OSError as error:
             raise Misuse(f"{folder}: can't be used: {error.strerror}") from error
-        if other := next(_leading_out(folder / ".git"), None):
-            raise Misuse(f"{other}: by it git would write elsewhere; remove it, or name another folder")
+        if outer := next(_leading_out(folder / ".git"), None):
+            raise Misuse(f"{outer}: by it git would write elsewhere; remove it, or name another folder")
         if is_empty:
             self._git("init", "--quiet", f"--initial-branch={BRANCH.rpartition('/')[2]}")
             self._git("config", _MARK, "true")
