@@ -7,6 +7,7 @@ from collections.abc import Iterable, Iterator
 from dataclasses import dataclass
 from pathlib import Path
 
+from bench61499 import TEXT_LIMIT
 from bench61499.language.bounded import walk
 from bench61499.language.names import shown
 from bench61499.language.tokens import declared_name
@@ -118,10 +119,27 @@ def _state_of(link: os.DirEntry[str], folders: list[Path]) -> tuple[str, Stamp |
 def stamp_of(file: Path | os.DirEntry[str]) -> Stamp | None:
     """The state of a file; None of what is no file, or can't be looked at."""
     try:
-        state = file.stat()
+        return _stamp(file.stat())
     except OSError:
         return None
+
+
+def _stamp(state: os.stat_result) -> Stamp | None:
     return (state.st_mtime_ns, state.st_ctime_ns, state.st_size) if stat.S_ISREG(state.st_mode) else None
+
+
+def read_at_once(file: Path) -> tuple[str, Stamp] | None:
+    """The text and the state of a file, by few calls of the system. None if the file is a link, if its text can't be that of a unit, or if it changes meanwhile."""
+    try:
+        descriptor = os.open(file, os.O_RDONLY | os.O_NONBLOCK | os.O_CLOEXEC | os.O_NOFOLLOW)
+        try:
+            stamp, content = _stamp(os.fstat(descriptor)), os.read(descriptor, TEXT_LIMIT + 1)
+        finally:
+            os.close(descriptor)
+        is_whole = stamp and len(content) == stamp[-1] <= TEXT_LIMIT
+        return (content.decode(), stamp) if stamp and is_whole else None
+    except (OSError, UnicodeDecodeError):
+        return None
 
 
 def read_file(file: Path, stamp: Stamp) -> File:

@@ -24,7 +24,7 @@ from bench61499.lsp.teamtalk import TeamTalk
 from bench61499.sync.editors import Opened, Reporter
 
 PIECE = 0.005
-"""Seconds for which files and texts are read before the next message is looked for."""
+"""Seconds for which files and texts are read, and files that are not open are shown, before the next message is looked for."""
 QUIET = 0.3
 """Seconds after the last key for which a change waits for further ones."""
 LONGEST_HOLD = 2.0
@@ -59,6 +59,7 @@ class Checking:
         self._forced: dict[Path, int] = {}
         self._agreed: dict[Path, str | None] = {}
         self._shown: dict[Path, list[Diagnostic]] = {}
+        self._unshown: set[Path] = set()
         self._uris: dict[Path, str] = {}
         self._lacking = ""
         self._quiet_until = self._held_until = self._ahead_from = 0.0
@@ -71,7 +72,7 @@ class Checking:
     def patience(self) -> float | None:
         """How long to wait for a message before the next step; None where there is nothing to do without one."""
         ahead = self._reads_ahead()
-        if not self._sources.is_taken() or ahead <= 0 and not self.plant.is_read():
+        if not self._sources.is_taken() or self._unshown or ahead <= 0 and not self.plant.is_read():
             return 0
         if self._is_dirty and self._talk.can_begin(True):
             return 0
@@ -210,13 +211,15 @@ class Checking:
         end = time.monotonic() + PIECE
         if news := self._talk.poll():
             self._take(news)
-        self._follow_talk()
-        if self._sources.catch_up(end):
+        is_taken = self._sources.catch_up(end)
+        self._follow_talk(is_taken)
+        if is_taken:
             if not self._hold():
                 self._settle()
             if self._talk.can_begin(self._is_dirty):
                 self._begin()
-        if self._reads_ahead() <= 0:
+        self._show_some(end)
+        if self._reads_ahead() <= 0 and not self._unshown:
             self.plant.refresh(end)
         self._tell_lacking()
         self._offers.step()
@@ -228,14 +231,17 @@ class Checking:
         is_answered = any(it.is_published for it in self._sources.documents.values())
         return 0.0 if is_answered else max(0.0, self._ahead_from - time.monotonic())
 
-    def _follow_talk(self) -> None:
-        """Continues with another talk where the server turns out to be of another kind, and shows it if nothing is known now."""
+    def _follow_talk(self, is_taken: bool) -> None:
+        """Continues with another talk where the server turns out to be of another kind, and shows it if nothing is known now.
+
+        With a host that begins once all files are taken in: to read both at once would delay the open texts.
+        """
         if self._talk.is_over:
             self._talk.close()
             self._talk = self._new_talk()
             self._talk.open()
-        elif isinstance(self._talk, Talk) and self._talk.successor:
-            self._talk = self._talk.successor
+        elif isinstance(self._talk, Talk) and self._talk.successor and is_taken:
+            self._talk = self._talk.successor()
         if self._talk.caller != self._pages.caller:
             self.asking.log(f"This editor is session {self._talk.caller} of the workbench.")
         known = self._talk.trouble, self._talk.gives_texts, self._talk.caller
@@ -299,7 +305,8 @@ class Checking:
         self._report_opened()
         found = {unit: path for unit in news.units | news.faults if (path := self._sources.owners.get(unit))}
         for unit, path in found.items():
-            self._offers.note(path, unit, self._pages.units[unit], self._wanted.texts.get(unit))
+            if it := self._pages.units.get(unit):
+                self._offers.note(path, unit, it, self._wanted.texts.get(unit))
         self._show({*found.values(), *self.plant.skipping(news.units)})
 
     def _drop_passed(self) -> None:
@@ -340,10 +347,20 @@ class Checking:
     # What is shown
 
     def _show(self, paths: Iterable[Path]) -> None:
-        """Shows what is known of files, those first that are open, and of open texts of which that is not shown yet."""
+        """Shows what is known of open files, and of open texts of which that is not shown yet; the other files are shown by the next steps."""
         unsure = {path for path, it in self._sources.documents.items() if not it.is_published or self._is_double(path)}
-        for path in sorted({*paths, *unsure}, key=lambda it: (not self._is_open(it), str(it))):
+        self._unshown.update(paths)
+        opened = unsure | self._unshown & self._sources.documents.keys()
+        self._unshown -= opened
+        for path in sorted(opened):
             self._show_one(path)
+
+    def _show_some(self, end: float) -> None:
+        """Shows what is known of files that are not open: of one, and then of more until a time."""
+        while self._unshown:
+            self._show_one(self._unshown.pop())
+            if time.monotonic() >= end:
+                return
 
     def _is_double(self, path: Path) -> bool:
         source = self._sources.source(path)

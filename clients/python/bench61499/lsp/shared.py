@@ -14,6 +14,8 @@ MOST_JOBS = 16
 """Jobs that an own workbench does at once. It begins with one, as faults come first, and networks are not wanted here."""
 MANY_NEW = 1_024
 """New units of which an own workbench gets at first only those that the open ones rest on, as these are wanted first."""
+MOST_PUT = 512
+"""Units that it gets at once then, so that a change that comes meanwhile does not wait long."""
 MOST_ASKED = 64
 """Units whose faults are asked for at once, so that a change that comes meanwhile does not wait long."""
 FIRST_PAUSE, LONGEST_PAUSE = 0.05, 1.0
@@ -73,22 +75,21 @@ class SharedTexts(Committed):
     def _bring(self, wanted: Wanted) -> None:
         self._wanted = wanted
         self._find_out(unit for unit in wanted.texts if unit not in self._units)
-        changed, first = set[str](), self._first()
-        is_rest = self._has_more
+        changed, is_rest = set[str](), self._has_more
+        first = set[str]() if is_rest else self._first()
         try:
-            self._has_more = self._bring_new(self.session, changed, len(first) or UNITS_LIMIT, first)
+            self._has_more = self._bring_new(self.session, changed, len(first) or (MOST_PUT if is_rest else UNITS_LIMIT), first)
         finally:
-            if changed:
+            if changed and not is_rest:
                 self._reach(changed)
-        if self._has_more:
-            self._waiting &= wanted.open.keys()
-        elif is_rest:
-            self._waiting |= {unit for unit, it in self._units.items() if it.revision}
+        if is_rest:
+            asked = self._mentions.near(wanted.open, wanted.texts) if self._has_more else self._units.keys()
+            self._waiting = {unit for unit in asked if self._units[unit].revision}
 
     def _first(self) -> set[str]:
         """The new units that an own workbench gets before all others: the open ones and what they rest on, so that their faults are those that stay. None if all may go at once."""
         texts, new = self._wanted.texts, [unit for unit, it in self._units.items() if not it.revision]
-        if self._shared or self._has_more or len(new) <= MANY_NEW:
+        if self._shared or len(new) <= MANY_NEW:
             return set()
         return self._mentions.near(self._wanted.open, texts) & set(new)
 
@@ -104,7 +105,10 @@ class SharedTexts(Committed):
         new = list(units)
         found = self.session.present(new) if self._shared else dict.fromkeys(new, 0)
         for unit, revision in found.items():
-            self._set(unit, Unit(revision))
+            if self._shared:
+                self._set(unit, Unit(revision))
+            else:
+                self._units[unit] = ABSENT  # That is no news: it gets them all.
             if revision:
                 self._waiting.add(unit)
         self._last = max(self._last, *found.values(), 0)
@@ -163,9 +167,13 @@ class SharedTexts(Committed):
         self._jobs = min(2 * self._jobs, MOST_JOBS)
 
     def _ask_some(self) -> None:
-        """Asks for faults until one is pending. Workers find those of a unit whose name is less first, so the others are mostly there once the last one is."""
-        first = self._waiting & self._wanted.open.keys()
-        order = [*sorted(first), *sorted(self._waiting - first, reverse=self._shared)]
+        """Asks for faults until one is pending. Workers find those of a unit whose name is less first, so the others are mostly there once the last one is.
+
+        The open units come first, but in a large folder after what they rest on: in what is broken no name is warned of.
+        """
+        opened = self._waiting & self._wanted.open.keys()
+        others = sorted(self._waiting - opened, reverse=self._shared)
+        order = [*others, *sorted(opened)] if self._has_more else [*sorted(opened), *others]
         found: dict[str, Faults] = {}
         for unit in islice(order, MOST_ASKED):
             try:
@@ -253,4 +261,4 @@ class SharedTexts(Committed):
         self._units.clear()
         self._faults.clear()
         self._waiting.clear()
-        self._under_way, self._last = [], 0
+        self._under_way, self._last, self._has_more = [], 0, False

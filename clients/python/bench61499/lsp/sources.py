@@ -7,7 +7,7 @@ from itertools import chain
 from pathlib import Path
 from typing import Any
 
-from bench61499.language.folder import Stamp, stamp_of, stamps_of
+from bench61499.language.folder import Stamp, read_at_once, stamp_of, stamps_of
 from bench61499.language.merging import is_marked
 from bench61499.language.plant import Plant
 from bench61499.language.positions import changed, sound
@@ -157,6 +157,8 @@ class Sources:
     def _read(self, path: Path) -> Source | None:
         if document := self.documents.get(path):
             return Source(path, None if document.is_too_long else document.text)
+        if its := read_at_once(path):
+            return Source(path, *its)
         stamp = None if path.is_symlink() else stamp_of(path)  # Where a link may lead, the file is known by its own name.
         if not stamp:
             return None

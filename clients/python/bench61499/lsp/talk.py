@@ -26,7 +26,7 @@ class Talk:
     """One talk. `wake` is called, in its thread, when something is done; `tell` shows words to the user.
 
     A shared workbench is looked for again by itself, an own one when `open` is called. `trouble` tells why nothing is checked now; it is empty
-    if all is well. `successor` is the talk that goes on, if the workbench turns out to answer reads. `caller` is the number of the session that commits,
+    if all is well. `successor` begins the talk that goes on, if the workbench turns out to answer reads. `caller` is the number of the session that commits,
     0 if nobody tells it.
     """
 
@@ -36,7 +36,7 @@ class Talk:
     def __init__(self, open_workbench: Callable[[], Session], shared: bool, tell: Callable[[int, str], None], wake: Callable[[], None]):
         self._open_workbench, self._shared, self._tell, self._wake = open_workbench, shared, tell, wake
         self.trouble = ""
-        self.successor: TeamTalk | None = None
+        self.successor: Callable[[], TeamTalk] | None = None
         self._texts: SharedTexts | None = None
         self._session: Session | None = None
         self._thread = ThreadPoolExecutor(1)
@@ -129,7 +129,7 @@ class Talk:
     def _take(self, result: Session | float | None) -> None:
         """Takes a workbench that was found, or how long there is nothing more to do after a turn."""
         if isinstance(result, Session) and self._has_reads:
-            self.successor = TeamTalk(self._open_workbench, result, self._tell, self._wake)
+            self.successor = lambda: TeamTalk(self._open_workbench, result, self._tell, self._wake)
             return
         if isinstance(result, Session):
             self._session, self._is_resumed, self._due = result, False, time.monotonic()

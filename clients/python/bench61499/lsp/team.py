@@ -6,6 +6,7 @@ from collections.abc import Iterable
 from dataclasses import replace
 
 from bench61499 import Commit, Put
+from bench61499.language.mentions import Mentions, words_of
 from bench61499.language.merging import is_marked
 from bench61499.lsp.commits import ABSENT, Author, Committed, Faults, Unit, Wanted
 from bench61499.lsp.commits import News as TurnNews
@@ -24,7 +25,7 @@ class TeamTexts(Committed):
 
     def __init__(self, mirror: Mirror):
         super().__init__()
-        self._mirror = mirror
+        self._mirror, self._mentions = mirror, Mentions()
         self._workbench = self._known = ""
         self.has_more = False
         self._faults: dict[str, Faults] = {}
@@ -33,6 +34,7 @@ class TeamTexts(Committed):
         self._untold: dict[str, int] = {}
         self._behind: set[str] = set()
         self._touched: set[str] = set()
+        self._early: set[str] = set()
         self._is_all = True
         self._run: dict[str, set[int]] = {}
 
@@ -48,12 +50,13 @@ class TeamTexts(Committed):
         for news in told:
             self._take(news)
         if not self.is_loaded:
+            self._take_early((wanted.open.keys() - self._early) & wanted.texts.keys())
             return
         for unit, text in wanted.agreed.items():
             self._set_common(unit, text)
         for unit in wanted.shut & wanted.texts.keys():
             self._take_back(unit, wanted.texts[unit])
-        self._compare()
+        self._compare(list(self._looked_at()))
         self.has_more = False
         if is_to_commit and self._has_new():
             with self._mirror.session(self._workbench) as session:
@@ -91,15 +94,39 @@ class TeamTexts(Committed):
         """Nothing is known of the workbench any more, but the last texts that it and this editor both had."""
         self._workbench = ""
         self._units, self._faults, self._untold, self._run = {}, {}, {}, {}
-        self._own, self._behind, self._under_way = set(), set(), []
+        self._own, self._behind, self._early, self._under_way = set(), set(), set(), []
         self.news, self._is_all = TurnNews(is_other=True), True
 
     def _load(self) -> None:
-        """Takes all that is there."""
-        self._workbench = self._known
+        """Takes all that is there, and again what was taken of it before."""
+        self._workbench, self._units = self._known, {}
         self._faults = {unit: faults for unit, faults in self._mirror.values("faults").items() if isinstance(faults, tuple)}
         for unit, version in self._mirror.versions().items():
             self._set_theirs(unit, version, None)
+
+    def _take_early(self, opened: set[str]) -> None:
+        """Takes those of these open units that are there with the texts that they have here, before all is read, which takes longer. They wait for that if
+        something that their faults or warnings rest on has no text here, or no faults yet."""
+        if not opened or self._known != self._mirror.workbench:
+            return
+        self._early |= opened
+        texts, elsewhere = self._wanted.texts, self._mirror.revisions().keys() - self._wanted.texts.keys()
+        near = self._mentions.near(opened, texts)
+        if any(not elsewhere.isdisjoint(words_of(texts[unit])) for unit in near):
+            return
+        with self._mirror.session(self._known) as session:
+            theirs = session.texts(list(opened))
+            faults = {unit: it for (_, unit), it in session.peek_all([("faults", unit) for unit in near]).items() if it is not None}
+            after = session.texts(list(opened))
+        if faults.keys() != near:
+            return
+        self.news.faults |= faults
+        # Of a text that is the same before and after, so that the faults are its own.
+        same = [unit for unit, it in theirs.items() if it.text == texts[unit] and unit in after and after[unit].revision == it.revision]
+        for unit in same:
+            self._faults[unit] = faults[unit]
+            self._set_theirs(unit, Version(theirs[unit].revision, theirs[unit].text), None)
+        self._compare(same)
 
     def _take_change(self, commit: Commit | None, change: UnitChange) -> None:
         """Takes what somebody has made of a unit, unless it is what is known already."""
@@ -147,9 +174,9 @@ class TeamTexts(Committed):
         if it.text == it.common != text and not (it.is_ours and hash(text) in self._run.get(unit, ())):
             self._set_common(unit, text)
 
-    def _compare(self) -> None:
+    def _compare(self, units: Iterable[str]) -> None:
         """Finds which texts here are the workbench's, and which differ and are not to be put."""
-        for unit in list(self._looked_at()):
+        for unit in units:
             text, it = self._wanted.texts[unit], self._units.get(unit)
             if not it or not it.revision:
                 continue
