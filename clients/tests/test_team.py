@@ -451,20 +451,40 @@ class QuietTest(InFolder):
 class LargeTest(unittest.TestCase):
     """A folder of which an own workbench does not get all at once."""
 
-    def test_what_open_texts_rest_on_comes_first(self) -> None:
-        texts, turns = hall(), list[News]()
-        with Session.script(workbench()) as session, patch("bench61499.lsp.shared.MANY_NEW", 5):
-            its = SharedTexts(session, False)
-            wanted, is_over = Wanted(texts, open={"CELL_B": texts["CELL_B"]}), False
+    def turns(self, texts: dict[str, str], then: str = "CELL_B") -> list[News]:
+        """What the turns find until all is known, with CELL_B open, and another unit once its faults are known."""
+        turns, opened = list[News](), {"CELL_B": texts["CELL_B"]}
+        with Session.script(workbench()) as session, patch("bench61499.lsp.shared.MANY_NEW", 5), patch("bench61499.lsp.shared.MOST_PUT", 2):
+            its, is_over = SharedTexts(session, False), False
             while not is_over:
-                is_over = its.turn(wanted) is None
+                is_over = its.turn(Wanted(texts, open=opened)) is None
                 turns.append(its.take_news())
+                opened |= {then: texts[then]} if "CELL_B" in turns[-1].faults else {}
+        return turns
+
+    def test_what_open_texts_rest_on_comes_first(self) -> None:
+        texts = hall()
+        turns = self.turns(texts)
         first = next(at for at, it in enumerate(turns) if it.faults)
         self.assertEqual(turns[first].faults, {"CELL_B": ()})
         put = {unit for it in turns[: first + 1] for unit, unit_now in it.units.items() if unit_now.revision}
         self.assertTrue({"CELL_B", *CELLS["CELL_B"]} <= put < texts.keys(), put)
         self.assertFalse(any(it.is_brought for it in turns[: first + 1]))
         self.assertEqual({unit: faults for it in turns for unit, faults in it.faults.items()}, dict.fromkeys(texts, ()))
+
+    def test_what_is_broken_is_known_with_the_open_texts(self) -> None:
+        """As no name in it is warned of."""
+        turns = self.turns(hall() | {"STEP_08": "FUNCTION_BLOCK STEP_08 ?"})
+        opened = next(at for at, it in enumerate(turns) if "CELL_B" in it.faults)
+        known = {unit: [fault.code for fault in faults or ()] for it in turns[: opened + 1] for unit, faults in it.faults.items() if unit != "CELL_B"}
+        self.assertEqual(known, {"STEP_08": ["SYNTAX"]})
+
+    def test_a_further_text_is_opened_meanwhile(self) -> None:
+        """What it rests on comes with it, so that no fault of it is one that does not stay."""
+        turns = self.turns(dict(reversed(hall().items())), "HALL")
+        found = [it.faults["HALL"] for it in turns if "HALL" in it.faults]
+        self.assertFalse(turns[next(at for at, it in enumerate(turns) if "HALL" in it.faults)].is_brought)
+        self.assertEqual(found, [()] * len(found))
 
 
 if __name__ == "__main__":

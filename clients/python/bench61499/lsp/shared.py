@@ -75,10 +75,10 @@ class SharedTexts(Committed):
     def _bring(self, wanted: Wanted) -> None:
         self._wanted = wanted
         self._find_out(unit for unit in wanted.texts if unit not in self._units)
-        changed, is_rest = set[str](), self._has_more
-        first = set[str]() if is_rest else self._first()
+        changed, first, is_rest = set[str](), self._first(), self._has_more
+        most = max(len(first), MOST_PUT) if is_rest else len(first) or UNITS_LIMIT
         try:
-            self._has_more = self._bring_new(self.session, changed, len(first) or (MOST_PUT if is_rest else UNITS_LIMIT), first)
+            self._has_more = self._bring_new(self.session, changed, most, first)
         finally:
             if changed and not is_rest:
                 self._reach(changed)
@@ -89,7 +89,7 @@ class SharedTexts(Committed):
     def _first(self) -> set[str]:
         """The new units that an own workbench gets before all others: the open ones and what they rest on, so that their faults are those that stay. None if all may go at once."""
         texts, new = self._wanted.texts, [unit for unit, it in self._units.items() if not it.revision]
-        if self._shared or len(new) <= MANY_NEW:
+        if self._shared or not self._has_more and len(new) <= MANY_NEW:
             return set()
         return self._mentions.near(self._wanted.open, texts) & set(new)
 
@@ -186,7 +186,11 @@ class SharedTexts(Committed):
                 break
             found[unit] = faults
         self._waiting -= found.keys()
-        self._found(found)
+        self._found({unit: faults for unit, faults in found.items() if self._stay(unit, faults)})
+
+    def _stay(self, unit: str, faults: Faults) -> bool:
+        """Whether faults are those that stay: of a unit that lacks something yet that it rests on these are the ones of its own text."""
+        return not self._has_more or unit in self._wanted.open or any(it.code == "SYNTAX" for it in faults)
 
     def _wait(self) -> None:
         """Leaves time to the workers before the next question."""
