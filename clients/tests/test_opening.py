@@ -31,9 +31,10 @@ class Recording(Session):
 
     events: list[tuple[object, ...]] = []
 
-    def commit(self, changes: list[Change]) -> int:
-        self.events += [("put", it.unit) for it in changes]
-        return super().commit(changes)
+    def commit(self, changes: Iterable[Change]) -> int:
+        its = list(changes)
+        self.events += [("put", it.unit) for it in its]
+        return super().commit(its)
 
 
 class Racing(Session):

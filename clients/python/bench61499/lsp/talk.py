@@ -7,6 +7,7 @@ import time
 from collections.abc import Callable, Iterator
 from concurrent.futures import Future, ThreadPoolExecutor
 from contextlib import suppress
+from functools import partial
 from typing import Any
 
 from bench61499 import HistoryFull, Key, NoSeat, NoSuchKey, NotLetIn, NoWorkbench, Refused, Session, WorkbenchError, pauses
@@ -129,7 +130,7 @@ class Talk:
     def _take(self, result: Session | float | None) -> None:
         """Takes a workbench that was found, or how long there is nothing more to do after a turn."""
         if isinstance(result, Session) and self._has_reads:
-            self.successor = lambda: TeamTalk(self._open_workbench, result, self._tell, self._wake)
+            self.successor = partial(TeamTalk, self._open_workbench, result, self._tell, self._wake)
             return
         if isinstance(result, Session):
             self._session, self._is_resumed, self._due = result, False, time.monotonic()
