@@ -136,6 +136,7 @@ class DayTest(InFolder):
         self.assertEqual(self.cid.text, self.team()["LIFTER"])
         self.cid.type(f"{self.cid.text}// Cid\n")
         self.cid.save()
+        until(lambda: self.team()["LIFTER"].endswith("// Ben\n// Cid\n"), PATIENCE)
         self.await_agreement(self.ann, self.ben)
         self.assertTrue(self.text(self.ben, "LIFTER").endswith("// Ben\n// Cid\n"))
 
