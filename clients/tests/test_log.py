@@ -1,18 +1,24 @@
 """What has happened in a workbench, as lines and as a history of git."""
 from __future__ import annotations
 
+import argparse
+import io
 import os
 import shutil
 import subprocess
+import sys
 import unittest
 from collections.abc import Iterable, Iterator
-from contextlib import contextmanager
+from contextlib import contextmanager, redirect_stderr
 from pathlib import Path
+from unittest.mock import patch
 
 from support import CLIENTS, InFolder, hosting, run, serving, until
 from syncing import Host
 
 from bench61499 import Change, Put, Remove, Session
+from bench61499.cli import log
+from bench61499.cli.command import open_reading
 
 
 def text(name: str, words: str = "") -> str:
@@ -93,6 +99,22 @@ class LinesTest(LogTest):
                 session.commit([Put("B", 0, text("B"))])
             until(lambda: ": B\n" in said.read_text())
             self.assertIn("log: the host was started again: all that follows is of another workbench\n", said.read_text())
+
+    def test_a_connection_that_breaks_at_the_begin_is_made_again(self) -> None:
+        """As later: one line says so, and the log continues."""
+        said = io.StringIO()
+        with hosting() as port, redirect_stderr(said), patch.object(log, "open_reading", self.breaking), patch.object(log.Log, "follow_again") as again:
+            with patch.object(sys, "argv", ["log", "--connect", f":{port}", "--follow"]):
+                self.assertEqual(log.main(), 0)
+        again.assert_called_once()
+        self.assertRegex(said.getvalue(), "^log: the connection to .* ended: .*; trying again\n$")
+
+    @contextmanager
+    def breaking(self, options: argparse.Namespace) -> Iterator[Session]:
+        """A session whose connection has ended just after it was begun."""
+        with open_reading(options) as session:
+            session.close()
+            yield session
 
     def test_a_server_without_reads_is_refused(self) -> None:
         with serving(2) as port:

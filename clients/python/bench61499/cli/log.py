@@ -26,10 +26,9 @@ def main() -> int:
         log = Log(repository)
         with open_reading(options) as session:
             if options.follow:
-                log.connected(session, options)
-            log.catch_up(session)
-            if options.follow:
-                log.follow(session)
+                log.follow(session, options)
+            else:
+                log.catch_up(session)
         if options.follow:
             log.follow_again(options)
     except (Misuse, WorkbenchError) as error:
@@ -94,11 +93,11 @@ class Log:
         except NoSuchKey:
             return  # It was removed since.
 
-    def follow(self, session: Session, since: Since | None = None) -> None:
-        """Prints what has happened `since`, and continues as long as the connection lasts."""
+    def follow(self, session: Session, options: argparse.Namespace, since: Since | None = None) -> None:
+        """Prints what has happened since the last time, if given what that is, and continues as long as the connection lasts."""
         try:
-            if since:
-                self._tell(session, since, is_new=False)
+            self.connected(session, options)
+            self._tell(session, since or self._place.catch_up(session), is_new=False)
             while True:
                 self._tell(session, self._place.wait(session, WATCH), is_new=True)
         except WorkbenchError as error:
@@ -113,9 +112,8 @@ class Log:
                 with open_once(options) as session:
                     since = self._place.catch_up(session)
                     say("the host answers again")
-                    self.connected(session, options)
                     waits = pauses()
-                    self.follow(session, since)
+                    self.follow(session, options, since)
             except WorkbenchError:
                 continue
 
