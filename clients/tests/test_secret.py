@@ -146,6 +146,15 @@ class FirstContactTest(InFolder):
                 words = f"{'' if first else 'it is busy, '}it is not your host, or it was started without a secret"
                 self.assertEqual(told, f"the program at 127.0.0.1:{peer.port} sends no challenge: {words}")
 
+    def test_who_hangs_up(self) -> None:
+        """As a tunnel does whose host does not run."""
+        with socket.create_server(("127.0.0.1", 0)) as listener:
+            thread = threading.Thread(target=lambda: listener.accept()[0].close())
+            thread.start()
+            with self.assertRaisesRegex(NotYourHost, " closes the connection without a challenge: it is a tunnel to a host that does not run, it is not your host, or "):
+                Session.connect("127.0.0.1", listener.getsockname()[1], secret=SECRET)
+            thread.join()
+
     def test_who_is_silent_after_the_challenge(self) -> None:
         waiting = threading.Event()
         with listening(lambda _: b"" if waiting.wait(20) else b"") as peer:

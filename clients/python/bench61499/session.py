@@ -745,7 +745,7 @@ def _prove(connection: _Connection, secret: str, source: str) -> None:
     except NoAnswer as error:
         raise NotYourHost(f"{silent}it is busy, {why}") from error
     except ConnectionEnded as error:
-        raise NotYourHost(silent + why) from error
+        raise NotYourHost(f"the program at {connection.address} closes the connection without a challenge: it is a tunnel to a host that does not run, {why}") from error
     if not exchange:
         raise NotYourHost(silent + why)
     try:
