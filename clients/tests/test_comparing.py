@@ -3,6 +3,7 @@ from __future__ import annotations
 
 import os
 import re
+import signal
 import threading
 import time
 import unittest
@@ -15,6 +16,7 @@ from urllib.parse import urlsplit
 from editing import Editor
 from hall import hall, write_hall
 from support import InFolder, hosting, serving
+from syncing import Host
 from test_team import TeamTest
 
 from bench61499 import Change, ConnectionEnded, Put, Remove, Session, Status
@@ -120,7 +122,7 @@ class KnowingTest(ComparingTest):
         self.other.commit([Put("A", 0, BAD)])
         editor = self.started()
         editor.open(self.file)
-        differs = 3, r"A differs from the team's text \(commit 1\)"
+        differs = 3, r"A differs from the team's text \(commit 1\), and it is not known which is newer"
         editor.await_told("A.fb", differs)
         self.assertEqual(self.titles(editor), ["Take the team's text", "Compare", "Put mine"])
         editor.change(self.file, f"{GOOD} ")
@@ -283,7 +285,7 @@ class ChoosingTest(ComparingTest):
         self.let_edit(editor, MINE, 3)
         editor.await_told("A.fb")
         editor.change(self.file, MINE, 4)
-        editor.await_told("A.fb", (3, r"A differs from the team's text \(commit 3\)"))
+        editor.await_told("A.fb", (3, r"A differs from the team's text \(commit 3\), and it is not known which is newer"))
         self.assertEqual((self.text(), self.titles(editor)), (BOTH, ["Take the team's text", "Compare", "Merge", "Put mine"]))
 
     def test_marked_lines_are_not_put(self) -> None:
@@ -433,7 +435,7 @@ class ClosedTest(ComparingTest):
         mine = self.write("C.fb", GOOD.replace("A", "C", 1))
         self.file.write_text(BAD)
         editor.notify("workspace/didChangeWatchedFiles", changes=[])
-        editor.await_told("A.fb", (3, r"A differs from the team's text \(commit 1\)"))
+        editor.await_told("A.fb", (3, r"A differs from the team's text \(commit 1\), and it is not known which is newer"))
         mine.write_text(mine.read_text() + " ")
         editor.notify("workspace/didChangeWatchedFiles", changes=[])
         while self.other.text("C").text != mine.read_text():
@@ -585,6 +587,50 @@ class Named(Session):
         return number
 
 
+class StartedAgainTest(TeamTest):
+    """A host is killed and started again, and a colleague is the first who puts a unit there, of which the editor has a file that is not open."""
+
+    def setUp(self) -> None:
+        super().setUp()
+        self.host = Host()
+        self.addCleanup(self.host.end)
+        self.file, open_one = self.write("A.fb", GOOD), self.write("B.fb", GOOD.replace("A", "B", 1))
+        self.running = self.editor("--connect", f":{self.host.port}")
+        self.running.start(self.folder, CAN)
+        self.running.await_asked("client/registerCapability")
+        self.running.open(open_one)
+        self.await_text(GOOD)
+
+    def await_text(self, text: str) -> None:
+        with self.host.session() as session:
+            while not any(it.text == text for it in session.texts(["A"]).values()):
+                session.watch(session.status().calls, 0.1)
+
+    def start_again(self, text: str) -> None:
+        self.running.process.send_signal(signal.SIGSTOP)
+        self.host.end()
+        self.host.start()
+        with self.host.session() as session:
+            session.commit([Put("A", 0, text)])
+        self.running.process.send_signal(signal.SIGCONT)
+
+    def test_a_file_that_nobody_has_touched_gets_the_later_text(self) -> None:
+        self.start_again(BAD)
+        asked = self.running.await_asked("workspace/applyEdit")
+        (change,) = asked["params"]["edit"]["documentChanges"]
+        self.assertEqual((edited(GOOD, change["edits"]), asked["params"]["label"]), (BAD, "The team's text of A"))
+
+    def test_a_text_that_is_known_to_be_older_is_named_and_not_taken(self) -> None:
+        self.file.write_text(BAD)
+        self.running.notify("workspace/didChangeWatchedFiles", changes=[])
+        self.await_text(BAD)
+        self.start_again(GOOD)
+        self.running.await_told("A.fb", (3, r"A differs from the team's text \(commit 1\), which is an older one"))
+        time.sleep(CALM + 0.5)
+        self.running.ask("documentSymbol", self.folder / "B.fb")
+        self.assertEqual((self.running.asked, self.file.read_text()), ([], BAD))
+
+
 class LostTest(InFolder):
     """Connections that end, and a host that ends with another workbench in its place."""
 
@@ -648,7 +694,7 @@ class LostTest(InFolder):
             self.step_until(lambda: self.shown("A.fb") == self.shown("B.fb") == [FAULT])
         with hosting() as self.port, self.connect() as other:
             other.commit([Put("A", 0, GOOD)])
-            self.step_until(lambda: self.shown("A.fb")[0] == "A differs from the team's text (commit 1)")
+            self.step_until(lambda: self.shown("A.fb")[0] == "A differs from the team's text (commit 1), and it is not known which is newer")
             self.checking.change(files[0].as_uri(), 2, [{"text": f"{BAD} "}])
             self.step_until(lambda: self.shown("B.fb") == [FAULT])
             self.checking.change(files[1].as_uri(), 2, [{"text": GOOD.replace("A", "B", 1)}])

@@ -24,7 +24,8 @@ class Unit:
     """A unit of the workbench: its revision, 0 if it is absent, and its text if that is known, be it that it was put from here.
 
     `is_changed` is of a unit that others have put or removed since it had the text of this editor, or since it was first seen from here;
-    `author` is then the one who did, if that is known. `common` is the last text that the workbench and this editor both had, if there was one.
+    `author` is then the one who did, if that is known. `common` is the last text that the workbench and this editor both had, if there was one. It `is_older`
+    if both had this text before the common one, and the author is not known: after a restart of a host somebody has put it who had no later one.
     """
 
     revision: int
@@ -33,6 +34,7 @@ class Unit:
     is_ours: bool = True
     author: Author | None = None
     common: str | None = None
+    is_older: bool = False
 
 
 ABSENT = Unit(0)

@@ -104,7 +104,7 @@ def changed(unit: str, it: Unit, now: float, caller: int) -> str:
     """Who has changed a unit, and when, as far as that is known; `caller` is the number of this editor's session, which somebody else may have had before."""
     author = it.author
     if not author:
-        return f"{unit} differs from the team's text (commit {it.revision})"
+        return f"{unit} differs from the team's text (commit {it.revision}), {'which is an older one' if it.is_older else 'and it is not known which is newer'}"
     what, who = "changed" if it.revision else "removed", f"session {author.session}" if author.session else "others"
     commit = f" (commit {author.commit})" if author.commit else ""
     told = f"{unit} was {what} by {'an earlier ' * (caller == author.session > 0)}{who}{commit} {_age(now - author.heard)} ago"

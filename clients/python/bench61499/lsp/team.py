@@ -30,6 +30,7 @@ class TeamTexts(Committed):
         self.has_more = False
         self._faults: dict[str, Faults] = {}
         self._common: dict[str, str] = {}
+        self._former: dict[str, set[int]] = {}
         self._own: set[int] = set()
         self._untold: dict[str, int] = {}
         self._behind: set[str] = set()
@@ -149,8 +150,9 @@ class TeamTexts(Committed):
         is_ours = any(isinstance(it, Put) and (it.unit, it.text) == (unit, version.text) for it in self._under_way)
         number = commit.number if commit else version.revision
         author = Author(commit.caller if commit else 0, number, time.monotonic()) if commit or unit in self._units else None
+        is_older = not author and version.text != self._common.get(unit) and hash(version.text) in self._former.get(unit, ())
         self._run[unit] = {hash(version.text)}
-        self._set(unit, Unit(version.revision, version.text, not is_ours, is_ours, author, self._common.get(unit)))
+        self._set(unit, Unit(version.revision, version.text, not is_ours, is_ours, author, self._common.get(unit), is_older))
 
     def _take_faults(self, unit: str, value: Faults | NoKey | None) -> None:
         if isinstance(value, tuple):
@@ -161,12 +163,20 @@ class TeamTexts(Committed):
 
     def _set_common(self, unit: str, text: str | None) -> None:
         """Takes a text of others for the last common one, as it went into the text here or was discarded here; None for none."""
-        self._common.pop(unit, None)
-        if text is not None:
-            self._common[unit] = text
+        if text is None:
+            self._common.pop(unit, None)
+        else:
+            self._agree(unit, text)
         it = self._units.get(unit, ABSENT)
         if it.revision:
             self._set(unit, replace(it, is_changed=it.text != text, common=text))
+
+    def _agree(self, unit: str, text: str) -> None:
+        """Takes a text for the last one that the workbench and this editor both had."""
+        former = self._common.get(unit, text)
+        if former != text:
+            self._former.setdefault(unit, set()).add(hash(former))
+        self._common[unit] = text
 
     def _take_back(self, unit: str, text: str) -> None:
         """An editor was closed, so the text of the file counts again: where that is older than what others have put, it is not put."""
@@ -182,11 +192,11 @@ class TeamTexts(Committed):
                 continue
             if it.common is None and it.text == self._wanted.open.get(unit, text):
                 it = replace(it, common=it.text)  # The user has typed before it was known what the workbench has.
-                self._common[unit] = it.text or ""
+                self._agree(unit, it.text or "")
             if it.text == text:
                 if it.is_changed or it.common is not text:
-                    self._common[unit] = text
-                    self._set(unit, replace(it, text=text, is_changed=False, common=text))
+                    self._agree(unit, text)
+                    self._set(unit, replace(it, text=text, is_changed=False, common=text, is_older=False))
             elif it.is_changed == self._is_ahead(unit, it):
                 self._set(unit, replace(it, is_changed=not it.is_changed))
 
@@ -216,7 +226,7 @@ class TeamTexts(Committed):
         self._own.add(number)
         self._untold[unit] = number
         self._faults.pop(unit, None)
-        self._common[unit] = text
+        self._agree(unit, text)
         self._run.setdefault(unit, set()).add(hash(text))
         self._set(unit, Unit(number, text, common=text))
 
