@@ -34,10 +34,14 @@ class Syncing:
             self._process = subprocess.Popen(
                 [*WITH_CTRL_C, CLIENTS / "sync", self.folder, "--connect", f":{self._port}", *words], stdin=subprocess.DEVNULL, stdout=said, stderr=subprocess.STDOUT)
 
-    def end(self, number: int = signal.SIGKILL) -> int:
+    @property
+    def process(self) -> subprocess.Popen:
         assert self._process
-        self._process.send_signal(number)
-        return self._process.wait(PATIENCE)
+        return self._process
+
+    def end(self, number: int = signal.SIGKILL) -> int:
+        self.process.send_signal(number)
+        return self.process.wait(PATIENCE)
 
     def is_running(self) -> bool:
         return self._process is not None and self._process.poll() is None

@@ -17,7 +17,7 @@ from unittest.mock import patch
 from support import InFolder, hosting, run, serving, until
 from syncing import TEXT, Host, Syncing, team_texts
 
-from bench61499 import TEXT_LIMIT, Change, ConnectionEnded, Put, Remove, Session, batches
+from bench61499 import TEXT_LIMIT, Change, ConnectionEnded, NoSeat, NoWorkbench, Put, Remove, Session, batches
 from bench61499.language.units import Misuse
 from bench61499.mirror import Version
 from bench61499.sync import files
@@ -26,7 +26,7 @@ from bench61499.sync.files import Changed, Writer
 from bench61499.sync.incoming import Incoming
 from bench61499.sync.keeper import Keeper, Ways
 from bench61499.sync.outgoing import Outgoing
-from bench61499.sync.report import Report
+from bench61499.sync.report import LASTS, Report
 from bench61499.sync.saved import Saved
 from bench61499.sync.store import FileRevision, Store
 from bench61499.sync.team import Team
@@ -424,8 +424,10 @@ class CommonTest(KeeperTest):
             kept = self.both()
             kept[deleted].file("A.fb").unlink()
             kept[changed].file("A.fb").write_text(BELOW)
-            self.settle(*kept)
+            with redirect_stdout(io.StringIO()) as said:
+                self.settle(*kept)
             self.assertEqual([it.texts() for it in kept], [{"A.fb": BELOW}] * 2)
+            self.assertEqual("; others had removed A\n" in said.getvalue(), deleted < changed)
             for it in kept:
                 it.file("A.fb").write_text(A)
             self.settle(*kept)
@@ -730,6 +732,19 @@ class LostTest(KeeperTest):
         one, _ = self.both()
         with self.assertRaisesRegex(Misuse, f"another sync keeps it, process {os.getpid()}$"):
             Store(one.folder)
+
+
+class OutageTest(unittest.TestCase):
+    def test_an_outage_is_one_line(self) -> None:
+        """Whatever each further try finds; but if somebody answers after a while and lets nobody in, a second line says that."""
+        said = io.StringIO()
+        with redirect_stderr(said), redirect_stdout(said), patch("time.monotonic", side_effect=[1.0, 2.0, 1.0 + LASTS]):
+            report = Report()
+            for error in (ConnectionEnded("closed"), NoSeat({}, "all in use"), NoWorkbench("refused"), NoSeat({}, "all in use")):
+                report.lost(error)
+            report.found()
+            report.found()
+        self.assertEqual(said.getvalue(), "sync: closed; trying again\nsync: all in use; trying again\nthe host answers again\n")
 
 
 class HostileTest(KeeperTest):

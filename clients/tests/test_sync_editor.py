@@ -2,6 +2,7 @@
 from __future__ import annotations
 
 import signal
+import time
 import unittest
 from pathlib import Path
 
@@ -9,7 +10,7 @@ from editing import Editor
 from support import InFolder, run, until
 from syncing import TEXT, Host, Syncing, team_texts
 
-from bench61499 import Put, Remove, Session
+from bench61499 import Commit, Put, Remove, Session
 from bench61499.lsp.choices import PUT
 from bench61499.sync.editors import Opened, Reporter, opened_in
 
@@ -132,8 +133,34 @@ class OneFolderTest(InFolder):
     def test_an_editor_that_ends_without_saving(self) -> None:
         self.type(f"// one\n{A}")
         self.await_team(A=f"// one\n{A}")
+        until(lambda: "is being edited" in self.kept.said(), PATIENCE)
+        with self.host.session() as session:
+            its = next(it for it in session.watch(0).events if isinstance(it, Commit) and it.number == 2)
         self.editor.process.kill()
         self.await_folder(A=f"// one\n{A}")
+        until(lambda: f"A.fb: written: revision 2 by your editor (session {its.caller})\n" in self.kept.said(), PATIENCE)
+
+    def test_a_host_that_is_started_again_with_an_older_text(self) -> None:
+        """What the editor and the former workbench had in common is not what the older text comes from."""
+        self.type(f"// one\n{A}")
+        self.save(f"// one\n{A}")
+        self.await_folder(A=f"// one\n{A}")
+        until(lambda: any(it.common == f"// one\n{A}" for it in opened_in(self.kept.folder / ".bench61499").values()), PATIENCE)
+        time.sleep(1)  # The `sync` has found that all is the same.
+        self.start_again()
+        self.await_folder(A=f"// one\n{A}")
+        self.assertEqual(self.kept.said().count("A.fb: written"), 1)
+
+    def start_again(self) -> None:
+        """Another workbench, where a colleague is the first to put a text."""
+        for it in self.kept.process, self.editor.process:
+            it.send_signal(signal.SIGSTOP)
+        self.host.end()
+        self.host.start()
+        self.colleague = self.enterContext(self.host.session())
+        self.colleague.commit([Put("A", 0, A)])
+        for it in self.editor.process, self.kept.process:
+            it.send_signal(signal.SIGCONT)
 
     def test_once_and_again(self) -> None:
         """Who only pulls gets all, and a `sync` that begins later knows what is open."""
@@ -156,7 +183,7 @@ class ReporterTest(InFolder):
         (self.state / "state.sqlite").touch()
 
     def test_what_is_reported(self) -> None:
-        reporter, it = Reporter(), Opened("A", True, "text")
+        reporter, it = Reporter(), Opened("A", True, "text", 7)
         reporter.report({self.folder / "inner" / "A.fb": it, Path("/elsewhere/B.fb"): it})
         self.assertEqual(opened_in(self.state), {"inner/A.fb": it})
         reporter.report({self.folder / "A.fb": Opened("A", False, None)})

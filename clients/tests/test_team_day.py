@@ -181,7 +181,7 @@ class DayTest(InFolder):
         self.viewer.until(lambda it: it.state("GAUGE") == "fine")
         for it in (self.ann, self.ben):
             before, again, _ = it.said().partition("the host answers again\n")
-            self.assertTrue(before.endswith("trying again\n") and again, it.said())
+            self.assertTrue(before.endswith("trying again\n") and before.count("trying again") == 1 and again, it.said())
 
     def lose_the_host(self) -> None:
         """It is killed and started again, with nothing. The folders have all."""

@@ -124,9 +124,9 @@ def keep(keeper: Keeper, saved: Saved, store: Store, team: Team, report: Report,
             next_look = time.monotonic() + min(max(LOOK, rest), LONGEST_LOOK)
         team.take()
         if team.error:
-            report.trouble(NAME, f"{team.error}; trying again")
-        elif report.is_over(NAME):
-            report.say("the host answers again")
+            report.lost(team.error)
+        else:
+            report.found()
         if keeper.step() and not is_begun:
             is_begun = True
             report.say(f"{saved.root} is kept the same as {address} from now on: {keeper.count():,} units")

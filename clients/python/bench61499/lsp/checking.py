@@ -167,11 +167,11 @@ class Checking:
 
     def _report_opened(self) -> None:
         """Reports what is open to a `sync` of the folder, if there is one: it leaves to the editor what is not saved, as that is committed from here."""
-        opened: dict[Path, Opened] = {}
+        opened, session = dict[Path, Opened](), 0 if self._talk.trouble else self._talk.caller
         for path in self._sources.documents if self._talk.gives_texts else ():
             if unit := self._unit_of(path):
                 it = self._pages.units.get(unit)
-                opened[path] = Opened(unit, self._sources.is_unsaved(path), it.common if it else None)
+                opened[path] = Opened(unit, self._sources.is_unsaved(path), it.common if it else None, session)
         self._reporter.report(opened)
 
     # Files
@@ -247,6 +247,7 @@ class Checking:
         known = self._talk.trouble, self._talk.gives_texts, self._talk.caller
         if known != (self._pages.trouble, self._pages.gives_texts, self._pages.caller):
             self._pages.trouble, self._pages.gives_texts, self._pages.caller = known
+            self._report_opened()
             self._show([*self._shown, *self._sources.documents])
 
     def _is_new(self) -> bool:

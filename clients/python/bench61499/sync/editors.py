@@ -1,4 +1,5 @@
-"""What language servers report to a `sync` of the same folder about the texts that are open in their editors: which text each comes from, and whether it is saved."""
+"""What language servers report to a `sync` of the same folder about the texts that are open in their editors: which text each comes from, whether it is saved, and
+the session that commits it."""
 from __future__ import annotations
 
 import fcntl
@@ -23,11 +24,13 @@ MOST_SERVERS, MOST_BYTES = 64, 16 << 20
 
 @dataclass(frozen=True)
 class Opened:
-    """A text that is open in an editor: the unit that it is, whether its user has changed it since it was saved, and the last text that the workbench and it both had, if any."""
+    """A text that is open in an editor: the unit that it is, whether its user has changed it since it was saved, and the last text that the workbench and it both had, if any.
+    `session` is the number of the session that commits it, 0 while there is no connection."""
 
     unit: str
     is_unsaved: bool
     common: str | None
+    session: int = 0
 
 
 class Reporter:
@@ -124,6 +127,7 @@ def _is_left(file: Path, number: int) -> bool:
     return True
 
 
-def _opened(unit: object, is_unsaved: object, common: object) -> Opened | None:
+def _opened(unit: object, is_unsaved: object, common: object, session: object = 0) -> Opened | None:
     is_text = common is None or isinstance(common, str) and is_utf_8(common)
-    return Opened(unit, bool(is_unsaved), common) if isinstance(unit, str) and is_unit_name(unit) and is_text else None  # type: ignore[arg-type]
+    number = session if isinstance(session, int) else 0
+    return Opened(unit, bool(is_unsaved), common, number) if isinstance(unit, str) and is_unit_name(unit) and is_text else None  # type: ignore[arg-type]

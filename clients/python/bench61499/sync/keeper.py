@@ -136,7 +136,8 @@ class Keeper:
     def _leave(self) -> None:
         """Finds the units to be left to editors: they are until what was saved there has been seen, which takes two looks."""
         opened = self._opened()
-        self._reported = {it.unit: it.common for it in opened.values() if it.common is not None}
+        self._team.editors = {it.session for it in opened.values() if it.session}
+        self._reported = _commons(opened)
         self._bases |= {unit: it for unit, it in self._reported.items() if self._ended.get(unit) != it}
         unsaved = {name: it.unit for name, it in opened.items() if it.is_unsaved}
         units = {*unsaved.values(), *(unit for unit, name in self._units.files.items() if name in unsaved)}
@@ -160,6 +161,7 @@ class Keeper:
             return
         if store.identity:
             self._report.say("the host was started again: the texts of its workbench are compared with the files")
+            self._bases, self._ended = {}, self._ended | _commons(self._opened())  # These texts were common with the former one.
         with store.together():
             for unit, version in versions.items():
                 self._compare(unit, version)
@@ -290,3 +292,8 @@ class Keeper:
         words = f"{len(gone)} files are gone at once ({names}, ..): their units stay in the workbench; bring the files back, or start sync with --remove"
         self._report.trouble("", words)
         return gone
+
+
+def _commons(opened: Mapping[str, Opened]) -> dict[str, str]:
+    """The texts by unit that editors and the workbench had last in common, as the editors report."""
+    return {it.unit: it.common for it in opened.values() if it.common is not None}

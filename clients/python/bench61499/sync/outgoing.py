@@ -31,14 +31,20 @@ class Outgoing:
             with self._store.together():
                 self._store.take_back(units)
             return self._refused(refusal, batch, files)
+        returned = {it.unit for it in batch if self._returns(it)}
         with self._store.together():
             self._store.take_back(units)
             for it in batch:
                 self._store.agree(it.unit, FileRevision(files[it.unit], number, it.text) if isinstance(it, Put) else None)
         for it in batch:
             step, words = (Step.PUT, f"revision {number}") if isinstance(it, Put) else (Step.REMOVE, f"{it.unit}, commit {number}")
-            self._report.did(step, files[it.unit], f": {words}")
+            self._report.did(step, files[it.unit], f": {words}{f'; others had removed {it.unit}' if it.unit in returned else ''}")
         return []
+
+    def _returns(self, change: Change) -> bool:
+        """Whether others have removed a unit that a change puts again."""
+        common = self._store.common.get(change.unit)
+        return isinstance(change, Put) and not change.base and common is not None and common.revision > 0
 
     def _refused(self, refusal: Refused, batch: list[Change], files: Mapping[str, str]) -> list[str]:
         """Waits for what others did meanwhile; without one change that can't be made the others go on."""

@@ -2,14 +2,19 @@
 from __future__ import annotations
 
 import sys
+import time
 from collections import Counter
 from collections.abc import Mapping
 
+from bench61499 import NoSeat, NoSecret, NotLetIn, NotYourHost, WorkbenchError
 from bench61499.language.names import printable
 from bench61499.sync.deciding import Step
 
 MANY = 20
 """So many files are named of which the same is told at once; if there are more, they are counted."""
+LASTS = 30.0
+"""Seconds of an outage after which it is reported again, if somebody answers at the address and lets nobody in."""
+_CONNECTION = ".connection"
 _DONE = {
     Step.WRITE: "written",
     Step.DELETE: "deleted",
@@ -28,6 +33,7 @@ class Report:
         self._lines: list[tuple[Step, str]] = []
         self._troubles: dict[str, str] = {}
         self._problems: dict[str, str] = {}
+        self._lost_at = 0.0
         self.counts: Counter[Step] = Counter()
 
     def did(self, step: Step, name: str, words: str = "") -> None:
@@ -60,7 +66,7 @@ class Report:
         print(printable(words), flush=True)
 
     def trouble(self, of: str, words: str) -> None:
-        """Tells what can't be done of a unit, or of the connection."""
+        """Prints what can't be done of a unit."""
         if self._troubles.get(of) != words:
             self._troubles[of] = words
             self._complain(words)
@@ -68,6 +74,19 @@ class Report:
     def is_over(self, of: str) -> bool:
         """Prints that it can be done now, and whether it could not be done before."""
         return self._troubles.pop(of, None) is not None
+
+    def lost(self, error: WorkbenchError) -> None:
+        """Prints that there is no connection, by one line: further tries during the same outage may fail for other reasons."""
+        is_known = _CONNECTION in self._troubles
+        self._lost_at = self._lost_at if is_known else time.monotonic()
+        is_refused = isinstance(error, NoSeat | NoSecret | NotLetIn | NotYourHost)
+        if not is_known or is_refused and time.monotonic() - self._lost_at >= LASTS:
+            self.trouble(_CONNECTION, f"{error}; trying again")
+
+    def found(self) -> None:
+        """Prints that there is a connection again, if there was none."""
+        if self.is_over(_CONNECTION):
+            self.say("the host answers again")
 
     def tell_problems(self, problems: Mapping[str, str]) -> None:
         """Tells of files that can be no unit."""

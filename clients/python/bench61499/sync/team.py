@@ -30,7 +30,7 @@ class _Awaited:
 class Team:
     """A workbench that others use too. What it tells comes on another thread and is taken by `take`.
 
-    `units` are those that have changed since they were last taken from it; `error` is why there is no connection.
+    `units` are those that have changed since they were last taken from it; `error` is why there is no connection; `editors` are the sessions of the user's own editors.
     """
 
     def __init__(self, connect: Callable[[], Session]):
@@ -41,6 +41,7 @@ class Team:
         self._callers: dict[str, str] = {}
         self._own: set[int] = set()
         self.units: set[str] = set()
+        self.editors: set[int] = set()
         self.error: WorkbenchError | None = None
 
     def __enter__(self) -> Self:
@@ -78,8 +79,9 @@ class Team:
         self._ask_for_late()
 
     def _see(self, number: int, caller: int, units: Iterable[str]) -> None:
+        other = f"your editor (session {caller})" if caller in self.editors else f"session {caller}"
         for unit in units:
-            self._callers[unit] = "you" if number in self._own else f"session {caller}"
+            self._callers[unit] = "you" if number in self._own else other
             if unit in self._awaited and self._awaited[unit].number <= number:
                 del self._awaited[unit]
 
