@@ -15,7 +15,7 @@ from bench61499.cli.command import add_server, fail, open_once, open_reading, pr
 from bench61499.cli.version import add_version
 from bench61499.language.units import Misuse
 from bench61499.sync.deciding import Step
-from bench61499.sync.editors import opened_in
+from bench61499.sync.editors import opened_in, sessions_in
 from bench61499.sync.keeper import FEW, Keeper, Ways
 from bench61499.sync.report import Report
 from bench61499.sync.saved import Saved
@@ -64,7 +64,7 @@ def sync(options: argparse.Namespace) -> int:
     ways = Ways(both or options.pull, both or options.push, options.dry_run, options.remove, is_once)
     address = "{}:{}".format(*options.connect)
     report = Report(options.dry_run, address)
-    with opened(options.folder, options.dry_run) as (saved, store), Team(lambda: open_once(options)) as team:
+    with opened(options.folder, options.dry_run) as (saved, store), Team(lambda: open_once(options), lambda: sessions_in(store.folder)) as team:
         keeper = Keeper(saved, store, team, ways, report, dict if is_once else lambda: opened_in(store.folder))
         if is_once:
             keep_once(keeper, team)

@@ -103,6 +103,11 @@ def opened_in(state: Path) -> dict[str, Opened]:
     return {name: it for file in files for name, it in _read(folder / file)}
 
 
+def sessions_in(state: Path) -> set[int]:
+    """The sessions of these editors."""
+    return {it.session for it in opened_in(state).values() if it.session}
+
+
 def _read(file: Path) -> Iterator[tuple[str, Opened]]:
     """What one language server reports; nothing if it has ended."""
     try:

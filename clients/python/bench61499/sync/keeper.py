@@ -136,7 +136,6 @@ class Keeper:
     def _leave(self) -> None:
         """Finds the units to be left to editors: they are until what was saved there has been seen, which takes two looks."""
         opened = self._opened()
-        self._team.editors = {it.session for it in opened.values() if it.session}
         self._reported = _commons(opened)
         self._bases |= {unit: it for unit, it in self._reported.items() if self._ended.get(unit) != it}
         unsaved = {name: it.unit for name, it in opened.items() if it.is_unsaved}

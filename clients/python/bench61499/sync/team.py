@@ -30,10 +30,11 @@ class _Awaited:
 class Team:
     """A workbench that others use too. What it tells comes on another thread and is taken by `take`.
 
-    `units` are those that have changed since they were last taken from it; `error` is why there is no connection; `editors` are the sessions of the user's own editors.
+    `units` are those that have changed since they were last taken from it; `error` is why there is no connection; `editors` gives the sessions of the user's editors.
     """
 
-    def __init__(self, connect: Callable[[], Session]):
+    def __init__(self, connect: Callable[[], Session], editors: Callable[[], set[int]] = set):
+        self._editors = editors
         self._news: queue.SimpleQueue[News] = queue.SimpleQueue()
         self._woken = threading.Event()
         self._mirror = Mirror(connect, self._told, all_texts=True, kinds=())
@@ -41,7 +42,6 @@ class Team:
         self._callers: dict[str, str] = {}
         self._own: set[int] = set()
         self.units: set[str] = set()
-        self.editors: set[int] = set()
         self.error: WorkbenchError | None = None
 
     def __enter__(self) -> Self:
@@ -62,6 +62,7 @@ class Team:
 
     def take(self) -> None:
         """Takes what was told."""
+        editors = set() if self._news.empty() else self._editors()
         while not self._news.empty():
             match self._news.get():
                 case Connected(_, is_other):
@@ -73,15 +74,14 @@ class Team:
                 case Changed(commit, changes):
                     self.units |= {it.unit for it in changes}
                     if commit:
-                        self._see(commit.number, commit.caller, (it.unit for it in changes))
+                        self._see(commit.number, _named(commit.caller, editors), (it.unit for it in changes))
                 case Disconnected(error):
                     self.error = error
         self._ask_for_late()
 
-    def _see(self, number: int, caller: int, units: Iterable[str]) -> None:
-        other = f"your editor (session {caller})" if caller in self.editors else f"session {caller}"
+    def _see(self, number: int, caller: str, units: Iterable[str]) -> None:
         for unit in units:
-            self._callers[unit] = "you" if number in self._own else other
+            self._callers[unit] = "you" if number in self._own else caller
             if unit in self._awaited and self._awaited[unit].number <= number:
                 del self._awaited[unit]
 
@@ -142,3 +142,7 @@ class Team:
     def expect(self, unit: str, number: int, is_removal: bool) -> None:
         """Has a unit not known until it is told with this revision or a later one, or as removed after it."""
         self._awaited[unit] = _Awaited(number, is_removal, time.monotonic())
+
+
+def _named(session: int, editors: set[int]) -> str:
+    return f"your editor (session {session})" if session in editors else f"session {session}"
