@@ -281,8 +281,12 @@ def cited(it):
 def defining(enum, word):
     """The definitions that name a variant of an enum: a crate, a file and a name for each."""
     has = re.compile(rf"(?<!\w){word}(?!\w)")
-    there = ((crate, *place, text) for crate in crates() for place, text in definitions(crate).items())
-    return [(crate, file, name) for crate, file, name, text in there if name != word and f".{enum}.TheVariants" in heads(crate).get(file, "") and has.search(text)]
+    found = []
+    for crate in crates():
+        for (file, name), text in definitions(crate).items():
+            if name != word and f".{enum}.TheVariants" in heads(crate).get(file, "") and has.search(text):
+                found.append((crate, file, name))
+    return found
 
 
 @functools.cache
@@ -325,8 +329,13 @@ def rows_of_edits(crate):
 
 @functools.cache
 def edits():
-    rows = [(crate, *row) for crate in crates() for row in rows_of_edits(crate)]
-    return [Edit(*place, cell, calls_in(cell), "".join(map(text_of, files("crates/{}/{}/{}.edit".format(*place)))), promise) for *place, cell, promise in rows]
+    found = []
+    for crate in crates():
+        for folder, name, cell, promise in rows_of_edits(crate):
+            path = f"crates/{crate}/{folder}/{name}.edit"
+            text = text_of(path) if os.path.isfile(f"{TOP}/{path}") else ""
+            found.append(Edit(crate, folder, name, cell, calls_in(cell), text, promise))
+    return found
 
 
 # ---- tests
@@ -371,7 +380,8 @@ def helpers(crate):
     """The items of a crate of tests that are no tests, by file and name."""
     found = defaultdict(list)
     for it in test_items(crate):
-        found[it.file, it.name] += [] if it.is_test else [it]
+        if not it.is_test:
+            found[it.file, it.name].append(it)
     return found
 
 
