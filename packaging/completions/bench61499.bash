@@ -12,7 +12,7 @@ _bench61499() {
     case ${COMP_WORDS[1]} in
       script) words='--units --history --help' ;;
       serve) words='--port --workers --sessions --units --history --help' ;;
-      host) words='--port --workers --sessions --units --history --secret --open --idle --connections --help' ;;
+      host) words='--port --workers --sessions --units --history --memory --secret --open --idle --connections --help' ;;
       help) words='script serve host' ;;
       *) words='' ;;
     esac

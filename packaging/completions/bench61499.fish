@@ -12,6 +12,7 @@ complete -c bench61499 -n '__fish_seen_subcommand_from script serve host' -x -l 
 complete -c bench61499 -n '__fish_seen_subcommand_from serve host' -x -l port -d 'The port, 0 for any free one'
 complete -c bench61499 -n '__fish_seen_subcommand_from serve host' -x -l workers -d 'Threads that compute answers, 1 to 16'
 complete -c bench61499 -n '__fish_seen_subcommand_from serve host' -x -l sessions -d 'How many sessions, 1 to 64, of a host 255'
+complete -c bench61499 -n '__fish_seen_subcommand_from host' -x -l memory -d 'Bytes of texts after which the history begins again'
 complete -c bench61499 -n '__fish_seen_subcommand_from host' -r -F -l secret -d 'A file whose first line is the secret'
 complete -c bench61499 -n '__fish_seen_subcommand_from host' -f -l open -d 'No secret'
 complete -c bench61499 -n '__fish_seen_subcommand_from host' -x -l idle -d 'Minutes after which a silent session ends, 0 to 10080'

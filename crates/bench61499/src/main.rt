@@ -48,6 +48,7 @@ fn draw_config(rt: &HostRuntime, settings: &HostSettings<'_>) -> io::Result<Host
         workers: settings.workers,
         sessions: settings.sessions,
         limits: settings.limits,
+        memory: settings.memory,
         first_line_timeout: FIRST_LINE_TIMEOUT,
         idle_timeout: settings.idle.saturating_mul(MINUTE),
         reply_timeout: REPLY_TIMEOUT,

@@ -35,12 +35,14 @@ pub const COMMIT_WAIT: u64 = 1_000;
 /// How many milliseconds a session may keep a key that it has taken.
 pub const KEY_TIMEOUT: u64 = 60_000;
 
-/// How many callers of each sort a host has, the limits of its workbench (`history` is the number of calls of an epoch), and whom it admits.
+/// How many callers of each sort a host has, the limits of its workbench (`history` is the most calls of an epoch), and whom it admits.
 #[derive(Clone, Copy)]
 pub struct HostConfig {
     pub workers: u8,
     pub sessions: u8,
     pub limits: Limits,
+    /// How many bytes of texts commits may put in an epoch, before the next one begins.
+    pub memory: u64,
     /// How many milliseconds a connection may take to send its first line.
     pub first_line_timeout: u64,
     /// How many milliseconds a session may be silent, or 0 if it may be so forever.
@@ -78,7 +80,13 @@ fn host_sessions<R: Threads + Wait + Clock + Sync, E: Write + Send>(
         served.closed.bench) }
 {
     let callers = u32::from(config.sessions) + u32::from(config.workers) + 2;
-    let (shared, mut sessions) = Shared::rolling(alloc, config.limits, callers, config.workbench)?;
+    let (shared, mut sessions) = Shared::rolling(
+        alloc,
+        config.limits,
+        config.memory,
+        callers,
+        config.workbench,
+    )?;
     let mut workers = sessions.split_off(usize::from(config.sessions))?;
     let (Some(reader), Some(keeper)) = (workers.pop(), workers.pop()) else {
         return Err(NotServed);
@@ -90,7 +98,7 @@ fn host_sessions<R: Threads + Wait + Clock + Sync, E: Write + Send>(
     };
     let host = HostState {
         shared,
-        receipts: ReceiptStore::new(alloc, config.limits.history()),
+        receipts: ReceiptStore::new(alloc),
         leases: Leases::new(alloc, config.key_timeout),
         pace: Pace::new(reader, u64::from(config.workers), config.commit_wait),
         notices: Notices::new(alloc),

@@ -1,90 +1,61 @@
 //! The receipts of the calls since the history last began.
-ghost use Rattle.std.specs.Prelude.{◌≡◌, ◌≤◌, ◌*◌, ◌-◌, length};
+ghost use Rattle.std.specs.Prelude.{◌≡◌, ◌≤◌, ◌<◌, []};
 
 use fb_shared::Receipt;
 use std::alloc::Global;
 use std::mem;
 use std::sync::{Mutex, Wait};
 
-/// The receipts of all calls of one epoch. A history begins again when it is full, and only then, so an epoch has `span` calls, and the epoch of a receipt
-/// follows from its number. Receipts of the epoch before stay in `past` until they are dropped, two with each new one and the last ones first. The workbench
-/// drops its records in the same way, so no record outlives its place in the history for long.
+/// The receipts of calls, and how many calls came before the start of the history: none of them is of these.
 pub struct EpochReceipts {
     alloc: Global,
-    span: u64,
     start: u64,
     receipts: Vec<Receipt>,
-    past: Vec<Receipt>,
-    ghost some: { 1 ≤ span },
 }
 
 impl Drop for EpochReceipts {
     fn drop(self) {
         let Self {
             alloc: _,
-            span: _,
             start: _,
             receipts: _,
-            past: _,
         } = self;
     }
 }
 
-/// Drops the last receipts, up to this number of them. Once none is left their room is given back too.
-fn drop_last(alloc: Global, receipts: &mut Vec<Receipt>, count: usize)
-    ensures { length receipts.new.items ≡ length receipts.old.items - count }
-{
-    receipts.truncate(receipts.len().saturating_sub(count));
-    if receipts.is_empty() {
-        *receipts = Vec::new(alloc);
-    }
-}
-
 impl EpochReceipts {
-    /// No receipts, of an epoch of this number of calls.
-    pub(crate) fn new(alloc: Global, span: u64) -> EpochReceipts
-        requires { 1 ≤ span }
-    {
+    /// No receipts, of a history that has never begun again.
+    pub(crate) fn new(alloc: Global) -> EpochReceipts {
         EpochReceipts {
             alloc,
-            span,
             start: 0,
             receipts: Vec::new(alloc),
-            past: Vec::new(alloc),
         }
     }
 
-    /// Takes the receipts in. Those that come too late are dropped. If there is no room, the others stay.
-    pub(crate) fn add(&mut self, receipts: &mut Vec<Receipt>)
-        // Within an epoch two receipts of the one before go with each that is new, as long as there are some.
-        ensures past { self.new.start ≡ self.old.start
-            → length self.new.past.items
-            ≤ length self.old.past.items
-            - 2 * (length self.new.receipts.items - length self.old.receipts.items) }
+    /// Takes the receipts in, after this start of the history at the latest. Those that come too late are dropped. If there is no room, the others stay. It gives
+    /// the receipts from before the start, for whoever drops them.
+    pub(crate) fn add(&mut self, start: u64, receipts: &mut Vec<Receipt>) -> Vec<Receipt>
+        ensures same { start ≤ self.old.start → (self.new.start ≡ self.old.start) × (result.items ≡ []) }
+        ensures later { self.old.start < start → (self.new.start ≡ start) × (result.items ≡ self.old.receipts.items) }
     {
-        let Some(last) = receipts.last() else {
-            return;
-        };
-        let start = last.number().saturating_sub(1) / self.span * self.span;
+        let mut past = Vec::new(self.alloc);
         if self.start < start {
             self.start = start;
-            let none = Vec::new(self.alloc);
-            self.past = mem::replace(&mut self.receipts, none);
+            past = mem::replace(&mut self.receipts, past);
         }
         let start = self.start;
         receipts.retain(|receipt| start < receipt.number());
-        drop_last(self.alloc, &mut self.past, receipts.len().saturating_mul(2));
         let _added = self.receipts.append(receipts);
+        past
     }
 
     /// Those with a number after this one.
     pub(crate) fn into_receipts(self, before: u64) -> Vec<Receipt> {
         let EpochReceipts {
             alloc: _,
-            span: _,
             start: _,
             receipts,
-            past: _,
         } = self;
         let mut receipts = receipts;
         receipts.retain(|receipt| before < receipt.number());
@@ -104,17 +75,17 @@ impl Drop for ReceiptStore {
 }
 
 impl ReceiptStore {
-    pub fn new(alloc: Global, span: u64) -> ReceiptStore
-        requires { 1 ≤ span }
-    {
+    pub fn new(alloc: Global) -> ReceiptStore {
         ReceiptStore {
-            state: Mutex::new(EpochReceipts::new(alloc, span)),
+            state: Mutex::new(EpochReceipts::new(alloc)),
         }
     }
 
-    /// Takes the receipts in, up to the room that there is. The others stay, and follow the next time.
-    pub fn add<R: Wait>(&self, rt: &R, receipts: &mut Vec<Receipt>) {
-        self.state.lock(rt).add(receipts);
+    /// Takes the receipts in, up to the room that there is, with how many calls came before the last start of the history when they were made, or later. The
+    /// others stay, and follow the next time. Receipts from before the start are dropped, with no lock held.
+    pub fn add<R: Wait>(&self, rt: &R, start: u64, receipts: &mut Vec<Receipt>) {
+        let past = self.state.lock(rt).add(start, receipts);
+        drop(past);
     }
 
     /// Those with a number after this one.

@@ -94,5 +94,5 @@ pub fn give_back_all<R: Wait>(
     ensures { LeadsTo state.old.seat state.new.seat }
 {
     give_back_held(rt, shared, state);
-    store.add(rt, &mut state.receipts);
+    store.add(rt, shared.last_roll(), &mut state.receipts);
 }

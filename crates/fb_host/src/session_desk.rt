@@ -125,7 +125,9 @@ impl<R: Wait + Clock> Desk for SessionDesk<'_, R> {
                     }
                     None => unreachable!(),
                 }
-                self.store.add(self.seated.rt, &mut self.seated.receipts);
+                let start = self.shared.last_roll();
+                self.store
+                    .add(self.seated.rt, start, &mut self.seated.receipts);
                 Ok(answer)
             }
             Err(DeskError::HistoryFull) => Err(DeskError::Memory),

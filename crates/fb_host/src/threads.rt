@@ -70,7 +70,7 @@ impl Results {
         self.is_whole &= self.seats.push(seat).is_ok();
     }
 
-    fn add<R: Wait>(&mut self, rt: &R, store: &ReceiptStore, state: CallerState)
+    fn add<R: Wait>(&mut self, rt: &R, host: &HostState, state: CallerState)
         ensures { IsTrue self.new.is_whole → IsTrue self.old.is_whole }
     {
         let CallerState {
@@ -78,7 +78,8 @@ impl Results {
             held: _,
             mut receipts,
         } = state;
-        store.add(rt, &mut receipts);
+        host.receipts
+            .add(rt, host.shared.last_roll(), &mut receipts);
         self.is_whole &= receipts.is_empty();
         self.add_seat(seat);
     }
@@ -86,7 +87,7 @@ impl Results {
     fn add_all<R: Threads + Wait>(
         &mut self,
         rt: &R,
-        store: &ReceiptStore,
+        host: &HostState,
         started: Started<CallerState>,
     )
         ensures { IsTrue self.new.is_whole
@@ -95,7 +96,7 @@ impl Results {
         let Started { threads, is_whole } = started;
         let is_whole = self.is_whole && is_whole;
         for thread in threads {
-            self.add(rt, store, thread.join(rt));
+            self.add(rt, host, thread.join(rt));
         }
         self.is_whole &= is_whole;
     }
@@ -111,7 +112,7 @@ impl Results {
     {
         host.leases.close(rt);
         match keeper {
-            Some(thread) => self.add(rt, &host.receipts, thread.join(rt)),
+            Some(thread) => self.add(rt, host, thread.join(rt)),
             None => self.is_whole = false,
         }
     }
@@ -160,10 +161,10 @@ pub(crate) fn run_threads<R: Threads + Wait + Clock + Sync, E: Write + Send>(
         }
         end_admission(rt, host, admission);
         let mut results = Results::new(alloc, is_whole);
-        results.add_all(rt, &host.receipts, sessions);
+        results.add_all(rt, host, sessions);
         results.add_keeper(rt, host, keeper);
         host.shared.stop(rt);
-        results.add_all(rt, &host.receipts, workers);
+        results.add_all(rt, host, workers);
         end_printer(rt, host, printer);
         results
     })
@@ -303,7 +304,8 @@ fn run_worker<R: Wait + Clock>(
     let mut state = state;
     for _ in rt.forever() {
         let end = keep_working(rt, alloc, &host.shared, &mut state, BATCH);
-        host.receipts.add(rt, &mut state.receipts);
+        host.receipts
+            .add(rt, host.shared.last_roll(), &mut state.receipts);
         match end {
             WorkEnd::TurnsOver => {}
             WorkEnd::Memory | WorkEnd::HistoryFull => pause(rt),

@@ -1,5 +1,5 @@
 -- Checkpoints of a full history under a lock, and keys that are out since a take.
-use Rattle.std.specs.Prelude.{◌≡◌, ◌<◌, ◌⊎◌, ◌++◌, ◌∷◌, [], ℕ, Bool, true, false, List, Option, Some, None, Result, Ok, Err}
+use Rattle.std.specs.Prelude.{◌≡◌, ◌<◌, ◌⊎◌, ◌++◌, ◌∷◌, [], ℕ, Bool, IsTrue, true, false, List, Option, Some, None, Result, Ok, Err}
 use Rattle.fb_bench.specs.{Jobs.declared.keys.key.Key.{Key}, Jobs.KeyOrder.{same_key}, Jobs.Reads.{PlainJob}, History.Checkpoints.{checking, checkpointed, ChecksAs}}
 use Rattle.fb_bench.specs.{History.Limits.{Bounds}, History.Machine.{ToGiveBack}}
 use Rattle.fb_bench.specs.History.BenchView.{Record, BenchView, IsFull, all_turns, last_number, record_numbered, state_of}
@@ -12,10 +12,12 @@ use Rattle.fb_locked.specs.declared.locked.SharedRefused.TheVariants.{HistoryFul
 abbrev pub locked_rolled : Bounds → LockedView → LockedView
 locked_rolled limits locked = record locked { bench = checkpointed limits locked.bench }
 
--- A full history begins again from the state to which it has led, and any other one stays unchanged. A full one stays if the checkpoint is refused.
-abbrev pub MakesRoom : {T : Type 0} → Bounds → LockedView → Result T CheckpointRefused → LockedView → Type 0
-MakesRoom limits old (Ok done) new = (IsFull old.bench.log × (new ≡ locked_rolled limits old)) ⊎ ((IsFull old.bench.log → ⊥) × (new ≡ old))
-MakesRoom limits old (Err refused) new = IsFull old.bench.log × ChecksAs (checking limits old.bench) (Err refused) × (new ≡ old)
+-- A history that is full, or due to roll, begins again from the state to which it has led, and any other one stays unchanged. It stays too if the checkpoint
+-- is refused.
+abbrev pub MakesRoom : {T : Type 0} → Bounds → Bool → LockedView → Result T CheckpointRefused → LockedView → Type 0
+MakesRoom limits due old (Ok done) new =
+    ((IsFull old.bench.log ⊎ IsTrue due) × (new ≡ locked_rolled limits old)) ⊎ ((IsFull old.bench.log → ⊥) × (due ≡ false) × (new ≡ old))
+MakesRoom limits due old (Err refused) new = (IsFull old.bench.log ⊎ IsTrue due) × ChecksAs (checking limits old.bench) (Err refused) × (new ≡ old)
 
 -- ---- keys that are out since a take
 

@@ -1,5 +1,5 @@
 //! A workbench under a lock whose history begins again once it is full, and keys that are out since a take.
-ghost use Rattle.std.specs.Prelude.{◌≡◌, ◌↔◌, ◌≤◌, ◌-◌, IsTrue, OnOk, OnErr, length, take};
+ghost use Rattle.std.specs.Prelude.{◌≡◌, ◌↔◌, ◌≤◌, IsTrue, OnOk, OnErr};
 ghost use Rattle.fb_bench.specs.{History.Checkpoints.{checking, ChecksAs}, History.Limits.{Bounds}, History.BenchView.{IsOrigin}};
 ghost use Rattle.fb_locked.specs.Rolling.{locked_rolled, takes, takes_at, IsOutSince, IsRollUnseen, IsTakenAfter, MakesRoom, MayReturn, Returns};
 ghost use Rattle.fb_locked.specs.Seats.{LockedView};
@@ -9,11 +9,12 @@ use crate::seat::{Receipt, Seat};
 use fb_bench::jobs::{Finished, Key};
 use fb_bench::library::Change;
 use fb_bench::{CheckpointRefused, Limits, Record, Reply, Request};
+use std::mem;
 use std::sync::Arc;
 
 impl Locked {
     /// Makes the present state what the history begins from, with these limits, and gives the number of all calls so far. It is no call
-    /// itself, and each seat fits as it did. The records so far are kept aside, so that no caller waits until all of them are dropped.
+    /// itself, and each seat fits as it did. The records so far are kept aside, so that nobody waits until all of them are dropped.
     pub fn roll(&mut self, limits: Limits) -> Result<u64, CheckpointRefused>
         ensures answer { ChecksAs (checking limits self.old.bench) result }
         ensures kept { OnOk result (self.new ≡ locked_rolled limits self.old) }
@@ -24,23 +25,19 @@ impl Locked {
         Ok(before)
     }
 
-    /// Drops two of the records from before the last roll, if there are any. A hold of the lock records one call, so all of them are gone before the
-    /// history is full again.
-    fn drop_past(&mut self)
+    /// The records from before the last roll, for whoever drops them once the lock is free.
+    pub fn take_past(&mut self) -> Vec<Arc<Record>>
         ensures { self.new ≡ self.old }
     {
-        drop_two(&mut self.past);
-        if self.past.is_empty() {
-            self.past = Vec::new(self.alloc);
-        }
+        let none = Vec::new(self.alloc);
+        mem::replace(&mut self.past, none)
     }
 
-    /// Rolls if the history is full, and only then.
-    pub fn make_room(&mut self, limits: Limits) -> Result<(), CheckpointRefused>
-        ensures { MakesRoom limits self.old result self.new }
+    /// Rolls if the history is full or due to roll, and only then.
+    pub fn make_room(&mut self, limits: Limits, is_due: bool) -> Result<(), CheckpointRefused>
+        ensures { MakesRoom limits is_due self.old result self.new }
     {
-        self.drop_past();
-        if !self.bench.is_full() {
+        if !is_due && !self.bench.is_full() {
             return Ok(());
         }
         match self.roll(limits) {
@@ -103,14 +100,6 @@ impl Locked {
             Err(refused) => Err(refused),
         }
     }
-}
-
-/// Drops the last two records, or all if there are fewer.
-fn drop_two(past: &mut Vec<Arc<Record>>)
-    ensures { past.new.items ≡ take (length past.old.items - 2) past.old.items }
-{
-    drop(past.pop());
-    drop(past.pop());
 }
 
 /// Whether the record hands the key out.

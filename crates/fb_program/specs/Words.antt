@@ -39,6 +39,10 @@ serve_app =
     (number_option (codes "sessions") 64 (codes "1"))
     ) (units_option few_units)) history_option
 
+-- `--memory N`, a number of bytes
+abbrev pub memory_option : Rule
+memory_option = number_option (codes "memory") 1099511627776 (codes "2147483648")
+
 -- `--idle N`, a number of minutes, or 0 for none
 abbrev pub idle_option : Rule
 idle_option = record (new_rule (codes "idle")) { long = Some (codes "idle"); parser = Some (reads.Unsigned 0 10080); defaults = codes "60" ∷ [] }
@@ -54,10 +58,10 @@ open_option = record (new_rule (codes "open")) { long = Some (codes "open"); act
 abbrev pub host_app : App
 host_app =
     with_rule (with_rule (
-    with_rule (with_rule (with_rule (with_rule (
+    with_rule (with_rule (with_rule (with_rule (with_rule (
     with_rule (with_rule (with_rule (new_app (codes "host")) port_option) workers_option)
     (number_option (codes "sessions") 255 (codes "32"))
-    ) (units_option all_units)) history_option) secret_option) open_option) idle_option)
+    ) (units_option all_units)) history_option) memory_option) secret_option) open_option) idle_option)
     (number_option (codes "connections") 1000000000 (codes "1000000000"))
 
 -- the program, which has a version and requires a subcommand
@@ -106,7 +110,7 @@ IsHost rows (Script units history) = ⊥
 IsHost rows (Serve port workers sessions units history) = ⊥
 IsHost rows (Host it) =
     AreServerNumbersIn 255 rows it.port it.workers it.sessions it.limits.units it.limits.history
-    × IsFlagIn (codes "open") rows it.is_open × IsNumberIn 0 10080 (codes "idle") rows it.idle × IsNumberIn 1 1000000000 (codes "connections") rows it.connections
+    × IsNumberIn 1 1099511627776 (codes "memory") rows it.memory × IsFlagIn (codes "open") rows it.is_open × IsNumberIn 0 10080 (codes "idle") rows it.idle × IsNumberIn 1 1000000000 (codes "connections") rows it.connections
 
 -- the settings are those of this subcommand and its matches
 abbrev pub IsAsked : Option (Text × List Row) → Settings → Type 0

@@ -22,6 +22,8 @@ const MOST_UNITS: u64 = 16_384;
 
 const MOST_HISTORY: u64 = 10_000_000;
 
+const MOST_MEMORY: u64 = 1_099_511_627_776;
+
 /// A week.
 const MOST_IDLE: u64 = 10_080;
 
@@ -39,6 +41,9 @@ const LAST_CALL: &str =
     "How many calls are recorded before all further ones are refused, 1 to 10000000";
 
 const NEW_START: &str = "After how many calls the history begins anew, 1 to 10000000";
+
+const TEXTS: &str =
+    "After how many bytes of texts that commits put the history begins anew, 1 to 1099511627776";
 
 const CONNECTIONS: &str = "How many connections it lets in over its life, 1 to 64";
 
@@ -146,6 +151,7 @@ fn command<'a>(alloc: Global) -> Result<Command<'a>, AllocError>
         .arg(number_option(alloc, "sessions", MOST_SEATS, "32", SEATS))?
         .arg(units_option(alloc, ALL_UNITS))?
         .arg(history_option(alloc, NEW_START))?
+        .arg(number_option(alloc, "memory", MOST_MEMORY, "2147483648", TEXTS))?
         .arg(secret_option(alloc))?
         .arg(open_option(alloc))?
         .arg(idle_option(alloc))?
@@ -225,6 +231,7 @@ fn host_in<'a>(matches: &ArgMatches<'a>) -> Option<Settings<'a>>
     let workers = number_at(matches, "workers", 1, MOST_WORKERS)?;
     let seats = number_at(matches, "sessions", 1, MOST_SEATS)?;
     let limits = limits_in(matches)?;
+    let memory = number_at(matches, "memory", 1, MOST_MEMORY)?;
     let idle = number_at(matches, "idle", 0, MOST_IDLE)?;
     let connections = number_at(matches, "connections", 1, MOST_CONNECTIONS)?;
     Some(Settings::Host(HostSettings {
@@ -232,6 +239,7 @@ fn host_in<'a>(matches: &ArgMatches<'a>) -> Option<Settings<'a>>
         workers: workers as u8,
         sessions: seats as u8,
         limits,
+        memory,
         secret: matches.get_str("secret"),
         is_open: flag_in(matches, "open"),
         idle,

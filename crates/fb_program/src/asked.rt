@@ -13,6 +13,8 @@ pub struct HostSettings<'a> {
     pub sessions: u8,
     /// How many units there may be, and after how many calls the history begins again.
     pub limits: Limits,
+    /// After how many bytes of texts the history begins again.
+    pub memory: u64,
     /// The file whose first line is the secret.
     pub secret: Option<&'a str>,
     /// Whether there is no secret.

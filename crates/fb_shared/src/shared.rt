@@ -7,6 +7,7 @@ ghost use Rattle.fb_locked.specs.{Ends.{calls_workers}, Reads.{ReadsAt}, Rolling
 ghost use Rattle.fb_locked.specs.History.declared.reading.Reading.TheVariants.{Events};
 ghost use Rattle.fb_shared.specs.Seated.{unnamed};
 
+use crate::rolling::Rolling;
 use fb_locked::bench::{Answered, Bench, Identity, Limits, MOST_CALLS, Reading, Request, Showing};
 use fb_locked::jobs::{Finished, Job, Key};
 use fb_locked::library::Change;
@@ -24,8 +25,8 @@ const GATHERING: u64 = 5;
 /// How many milliseconds a watch waits at most if the workbench is about to be closed.
 const CLOSING: u64 = 100;
 
-/// A workbench that threads share. Each call holds the lock once. Beside the lock are the number of callers for whom seats were made, the limits with which a
-/// full history begins again, if it does, and the identity of the workbench, 0 if it has none. `changed` wakes workers, and `events` those who watch,
+/// A workbench that threads share. Each call holds the lock once. Beside the lock are the number of callers for whom seats were made, when the history begins
+/// again, if it does, and the identity of the workbench, 0 if it has none. `changed` wakes workers, and `events` those who watch,
 /// who wait no longer if the workbench `is_closing`.
 pub struct Shared {
     pub(crate) state: Mutex<Locked>,
@@ -33,7 +34,7 @@ pub struct Shared {
     pub(crate) changed: Condvar,
     pub(crate) events: Condvar,
     pub(crate) is_closing: AtomicBool,
-    pub(crate) rolls: Option<Limits>,
+    pub(crate) rolls: Option<Rolling>,
     pub(crate) workbench: Identity,
 }
 
@@ -61,7 +62,8 @@ pub(crate) struct Hold<'a> {
 }
 
 impl Hold<'_> {
-    /// Lets the lock go, and wakes the workers that wait, if there is something for them, and those who watch, if its call is an event.
+    /// Lets the lock go, and wakes the workers that wait, if there is something for them, and those who watch, if its call is an event. Records from before a
+    /// roll are dropped after that.
     pub(crate) fn end(self) {
         let Self {
             state,
@@ -69,6 +71,8 @@ impl Hold<'_> {
             events,
             last_event,
         } = self;
+        let mut state = state;
+        let past = state.take_past();
         if state.calls_workers() {
             changed.notify_all();
         }
@@ -77,6 +81,7 @@ impl Hold<'_> {
         if has_news {
             events.notify_all();
         }
+        drop(past);
     }
 
     /// Lets the lock go, and waits for a change. Under the lock there must be nothing for which workers are called: who makes something then wakes this one.
@@ -133,10 +138,12 @@ impl Shared {
         }
     }
 
-    /// As `new`, but before each call a full history begins again: its present state becomes its start, with the same limits. Reads show the identity.
+    /// As `new`, but before each call a history begins again if it is full, or if commits have put more than `most_text` bytes of texts since its start: its
+    /// present state becomes its start, with the same limits. Reads show the identity.
     pub fn rolling(
         alloc: Global,
         limits: Limits,
+        most_text: u64,
         callers: u32,
         workbench: Identity,
     ) -> Result<(Shared, Vec<Seat>), AllocError>
@@ -146,7 +153,7 @@ impl Shared {
         ensures seats { IfOk result (λ made. AreFirstSeats callers made.1.items) }
     {
         let (mut shared, seats) = Shared::new(alloc, limits, callers)?;
-        shared.rolls = Some(limits);
+        shared.rolls = Some(Rolling::new(limits, most_text));
         shared.workbench = workbench;
         Ok((shared, seats))
     }
@@ -172,11 +179,11 @@ impl Shared {
         }
     }
 
-    /// Takes the lock for one call. If the history is full and may begin again, it does so first; without memory for that it stays full.
+    /// Takes the lock for one call. If the history has to begin again, it does so first; without memory for that it stays as it is.
     pub(crate) fn hold<R: Wait>(&self, rt: &R) -> Hold<'_> {
         let mut hold = self.enter(rt);
-        if let Some(limits) = self.rolls {
-            let _made = hold.state.make_room(limits);
+        if let Some(rolling) = &self.rolls {
+            rolling.make_room(&mut hold.state);
         }
         hold
     }
@@ -204,6 +211,14 @@ impl Shared {
         bench.start();
         bench.len();
         bench.before()
+    }
+
+    /// How many calls came before the last time that the history began again by itself, or 0. It takes no lock.
+    pub fn last_roll(&self) -> u64 {
+        match &self.rolls {
+            Some(rolling) => rolling.last(),
+            None => 0,
+        }
     }
 
     /// Whether the history is not one that the seat has seen.
@@ -304,6 +319,9 @@ impl Shared {
     {
         let mut hold = self.hold(rt);
         let answer = hold.state.perform_into(seat, receipts, request);
+        if let (Some(rolling), Ok(_)) = (&self.rolls, &answer) {
+            rolling.count(request);
+        }
         hold.end();
         answer
     }

@@ -12,32 +12,33 @@ use std::test::Fail;
 /// The calls of an epoch.
 const SPAN: u64 = 3;
 
-/// The numbers of the receipts that the store gets, a list for each time, after which call the history begins at last, and what is left of them then.
+/// What the store gets, each time after how many calls the history had begun last, and the numbers of the receipts; after which call it begins at last, and
+/// what is left of them then.
 #[derive(Clone, Copy)]
 struct Play {
-    handed_in: &'static [&'static [u64]],
+    handed_in: &'static [(u64, &'static [u64])],
     before: u64,
     left: &'static [u64],
 }
 
 const PLAYS: &[Play] = &[
     Play {
-        handed_in: &[&[1, 2], &[5, 6, 7], &[8]],
+        handed_in: &[(0, &[1, 2]), (6, &[5, 6, 7]), (6, &[8])],
         before: 6,
         left: &[7, 8],
     },
     Play {
-        handed_in: &[&[4, 5], &[2, 3]],
+        handed_in: &[(3, &[4, 5]), (3, &[2, 3])],
         before: 3,
         left: &[4, 5],
     },
     Play {
-        handed_in: &[&[2, 3, 4], &[1], &[5, 6]],
+        handed_in: &[(3, &[2, 3, 4]), (3, &[1]), (3, &[5, 6])],
         before: 3,
         left: &[4, 5, 6],
     },
     Play {
-        handed_in: &[&[4], &[5, 6]],
+        handed_in: &[(3, &[4]), (3, &[5, 6])],
         before: 6,
         left: &[],
     },
@@ -46,7 +47,13 @@ const PLAYS: &[Play] = &[
 // The receipts of this number of calls, of which each third begins the history again.
 fn receipts_of<R: Wait>(rt: &R, alloc: Global, calls: u64) -> Result<Vec<Receipt>, Fail> {
     let limits = Limits::new(4, SPAN).ok_or("limits")?;
-    let (shared, mut seats) = Shared::rolling(alloc, limits, 1, Identity { high: 0, low: 0 })?;
+    let (shared, mut seats) = Shared::rolling(
+        alloc,
+        limits,
+        u64::MAX,
+        1,
+        Identity { high: 0, low: 0 },
+    )?;
     let mut seat = seats.pop().ok_or("no seat")?;
     let key = Key {
         kind: Kind::Faults,
@@ -67,10 +74,10 @@ fn taken(receipts: Vec<Receipt>, numbers: &[u64]) -> Vec<Receipt> {
 }
 
 fn compare<R: Wait + Abort>(rt: &R, alloc: Global, play: Play) -> Result<(), Fail> {
-    let store = ReceiptStore::new(alloc, SPAN);
-    for numbers in play.handed_in {
+    let store = ReceiptStore::new(alloc);
+    for (start, numbers) in play.handed_in {
         let mut receipts = taken(receipts_of(rt, alloc, 9)?, numbers);
-        store.add(rt, &mut receipts);
+        store.add(rt, *start, &mut receipts);
         assert!(rt; receipts.is_empty());
     }
     let mut left = Vec::new(alloc);

@@ -48,6 +48,7 @@ fn config_of(heading: &str) -> Result<HostConfig, Fail> {
         workers: setting(heading, "workers", "0").parse()?,
         sessions: setting(heading, "sessions", "1").parse()?,
         limits: Limits::new(setting(heading, "units", "100").parse()?, history).ok_or("limits")?,
+        memory: setting(heading, "memory", "1000000").parse()?,
         first_line_timeout: setting(heading, "first-line", "600000").parse()?,
         idle_timeout: setting(heading, "idle", "0").parse()?,
         reply_timeout: setting(heading, "reply", "600000").parse()?,

@@ -156,8 +156,14 @@ fn is_closed<R: Wait>(
 // Sessions with one seat, the first of the two without the allocation of this number.
 fn tried<R: Wait + Clock>(rt: &R, alloc: Global, talk: Talk, number: u32) -> Result<Session, Fail> {
     let limits = Limits::new(8, 2).ok_or("limits")?;
-    let (shared, mut seats) = Shared::rolling(alloc, limits, 2, Identity { high: 7, low: 8 })?;
-    let store = ReceiptStore::new(alloc, limits.history());
+    let (shared, mut seats) = Shared::rolling(
+        alloc,
+        limits,
+        u64::MAX,
+        2,
+        Identity { high: 7, low: 8 },
+    )?;
+    let store = ReceiptStore::new(alloc);
     let pace = Pace::new(seats.pop().ok_or("no seat")?, 0, COMMIT_WAIT);
     let state = CallerState::new(alloc, seats.pop().ok_or("no seat")?);
     let (state, _) = say_lines(rt, alloc, &shared, &store, &pace, state, talk.before, 0)?;

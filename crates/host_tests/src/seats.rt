@@ -29,6 +29,16 @@ const CONVERSATIONS: &str = r#"
 0 asks {"op":"commit","changes":[{"put":"A","base":1,"text":"FUNCTION_BLOCK A END_FUNCTION_BLOCK"}]} => {"commit":2}
 0 leaves
 
+== It begins again with the call after more bytes of texts than it may keep, also if they were put in vain / connections 2 / memory 60 / history 20 / calls 7, 3
+0 asks {"op":"commit","changes":[{"put":"A","base":0,"text":"FUNCTION_BLOCK A END_FUNCTION_BLOCK"}]} => {"commit":1}
+0 repeats 2 {"op":"ask","kind":"net","unit":"A"} => {"refused":"NoSuchKey"}
+0 asks {"op":"commit","changes":[{"put":"A","base":0,"text":"FUNCTION_BLOCK A END_FUNCTION_BLOCK"}]} => {"current":1,"refused":"StaleBase","unit":"A"}
+0 asks {"op":"ask","kind":"faults","unit":"A"} => {"answer":"pending"}
+0 leaves
+1 asks {"op":"commit","changes":[{"remove":"A","base":1}]} => {"commit":2}
+1 asks {"op":"ask","kind":"net","unit":"A"} => {"refused":"NoSuchKey"}
+1 leaves
+
 == What a worker has done is there for the next connection / connections 2 / workers 1 / history 3 / calls any
 // It makes more looks than it makes before its receipts go to the store.
 0 commits 80 => {"faults":[]}

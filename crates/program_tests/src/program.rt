@@ -56,11 +56,11 @@ pub(crate) fn line_of(alloc: Global, settings: &Settings<'_>) -> Result<String, 
         } => format!(in alloc; "serve {port} {workers} {sessions} {units} {history}"),
         Settings::Host(it) => {
             let (port, workers, sessions) = (it.port, it.workers, it.sessions);
-            let (units, history) = (it.limits.units(), it.limits.history());
+            let (units, history, memory) = (it.limits.units(), it.limits.history(), it.memory);
             let (secret, is_open) = (it.secret, it.is_open);
             let (idle, connections) = (it.idle, it.connections);
             format!(in alloc;
-                "host {port} {workers} {sessions} {units} {history} {secret:?} {is_open} {idle} {connections}"
+                "host {port} {workers} {sessions} {units} {history} {memory} {secret:?} {is_open} {idle} {connections}"
             )
         }
     }
@@ -118,13 +118,14 @@ fn words_give_servers(rt: HostRuntime) -> Result<(), Fail> {
     compare(&rt, rt.alloc(), SERVED, (None, "", ""))
 }
 
-// Words that ask for a server that stays: the same, the secret, the minutes, and the connections.
-const HOSTED: &str = r#"host --port 7 => host 7 2 32 16384 100000 None false 60 1000000000
-host --port 0 --sessions 1 --workers 1 --units 1 --history 1 --secret s --idle 0 --connections 1 => host 0 1 1 1 1 Some("s") false 0 1
-host --connections=1000000000 --idle=10080 --secret=a/b --history=10000000 --units=16384 --workers=16 --sessions=255 --port=65535 => host 65535 16 255 16384 10000000 Some("a/b") false 10080 1000000000
-host --port 6149 --sessions 3 --workers 5 --units 17 --history 19 --idle 23 --connections 29 => host 6149 5 3 17 19 None false 23 29
-host --port 6149 --open --sessions 3 => host 6149 2 3 16384 100000 None true 60 1000000000
-host --open --port 6149 --secret s => host 6149 2 32 16384 100000 Some("s") true 60 1000000000"#;
+// Words that ask for a server that stays: the same, the bytes of texts, the secret, the minutes, and the connections.
+const HOSTED: &str =
+    r#"host --port 7 => host 7 2 32 16384 100000 2147483648 None false 60 1000000000
+host --port 0 --sessions 1 --workers 1 --units 1 --history 1 --memory 1 --secret s --idle 0 --connections 1 => host 0 1 1 1 1 1 Some("s") false 0 1
+host --connections=1000000000 --idle=10080 --secret=a/b --memory=1099511627776 --history=10000000 --units=16384 --workers=16 --sessions=255 --port=65535 => host 65535 16 255 16384 10000000 1099511627776 Some("a/b") false 10080 1000000000
+host --port 6149 --sessions 3 --workers 5 --units 17 --history 19 --memory 31 --idle 23 --connections 29 => host 6149 5 3 17 19 31 None false 23 29
+host --port 6149 --open --sessions 3 => host 6149 2 3 16384 100000 2147483648 None true 60 1000000000
+host --open --port 6149 --secret s => host 6149 2 32 16384 100000 2147483648 Some("s") true 60 1000000000"#;
 
 #[test]
 fn words_give_hosts(rt: HostRuntime) -> Result<(), Fail> {
@@ -132,7 +133,7 @@ fn words_give_hosts(rt: HostRuntime) -> Result<(), Fail> {
 }
 
 // Words that ask for nothing that the program does, or for help.
-const REFUSED: &[&str; 48] = &[
+const REFUSED: &[&str; 52] = &[
     "",
     "scripts",
     "--help",
@@ -157,6 +158,7 @@ const REFUSED: &[&str; 48] = &[
     "serve --port 0 --help",
     "serve --port 0 --secret s",
     "serve --port 0 --idle 1",
+    "serve --port 0 --memory 1",
     "script --connections 1",
     "host",
     "host --secret s",
@@ -169,6 +171,9 @@ const REFUSED: &[&str; 48] = &[
     "host --port 0 --units 16385",
     "host --port 0 --history 0",
     "host --port 0 --history 10000001",
+    "host --port 0 --memory",
+    "host --port 0 --memory 0",
+    "host --port 0 --memory 1099511627777",
     "host --port 0 --secret",
     "host --port 0 --open=1",
     "host --port 0 --open 1",

@@ -96,7 +96,7 @@ impl Owner for Locked {
 impl Owner for Shared {
     fn empty(alloc: Global, limits: Limits, rolls: bool) -> Result<Hall<Shared>, AllocError> {
         if rolls {
-            Shared::rolling(alloc, limits, 2, Identity { high: 1, low: 2 })
+            Shared::rolling(alloc, limits, u64::MAX, 2, Identity { high: 1, low: 2 })
         } else {
             Shared::new(alloc, limits, 2)
         }

@@ -27,7 +27,7 @@ impl Trial for Rolled {
     }
 
     fn call(&mut self, _alloc: Global) -> bool {
-        self.locked.make_room(self.limits) != Err(CheckpointRefused::Memory)
+        self.locked.make_room(self.limits, false) != Err(CheckpointRefused::Memory)
     }
 
     fn told(&self, alloc: Global) -> Result<String, Fail> {
@@ -105,7 +105,13 @@ impl<'a, R: Wait> Trial for Anew<'a, R> {
     fn new(alloc: Global, setting: (&'a R, &'a Given)) -> Result<Anew<'a, R>, Fail> {
         let (rt, given) = setting;
         let limits = Limits::new(4, 1).ok_or("limits")?;
-        let (shared, mut seats) = Shared::rolling(alloc, limits, 1, Identity { high: 1, low: 2 })?;
+        let (shared, mut seats) = Shared::rolling(
+            alloc,
+            limits,
+            u64::MAX,
+            1,
+            Identity { high: 1, low: 2 },
+        )?;
         let mut seat = seats.pop().ok_or("no seat")?;
         shared.ask(rt, &mut seat, given.key)?;
         Ok(Anew {

@@ -44,7 +44,13 @@ fn a_silent_seat_that_is_missing(rt: HostRuntime) -> Result<(), Fail> {
 #[test]
 fn a_refused_close_of_a_history_that_begins_again(rt: HostRuntime) -> Result<(), Fail> {
     let alloc: Global = rt.alloc();
-    let (shared, mut seats) = Shared::rolling(alloc, limits(2)?, 1, Identity { high: 1, low: 2 })?;
+    let (shared, mut seats) = Shared::rolling(
+        alloc,
+        limits(2)?,
+        u64::MAX,
+        1,
+        Identity { high: 1, low: 2 },
+    )?;
     let seat = seats.pop().ok_or("a seat")?;
     let missing = shared.close(alloc, seats, &[]).err().ok_or("closed")?;
     let (seat, _receipts) = ask_often(&rt, alloc, &missing.owner, seat, 5).ok_or("refused")?;
