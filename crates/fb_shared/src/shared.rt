@@ -14,7 +14,7 @@ use fb_locked::library::Change;
 use fb_locked::{Closed, Locked, NotClosed, NotResumed, Receipt, Seat, SharedRefused, close_for};
 use std::alloc::{AllocError, Global};
 use std::marker::Model;
-use std::sync::atomic::{AtomicBool, Ordering};
+use std::sync::atomic::{AtomicBool, AtomicU64, Ordering};
 use std::sync::{Condvar, CondvarTimeouts, Mutex, MutexGuard, Wait};
 use std::thread;
 use std::time::{Clock, Duration};
@@ -27,13 +27,14 @@ const CLOSING: u64 = 100;
 
 /// A workbench that threads share. Each call holds the lock once. Beside the lock are the number of callers for whom seats were made, when the history begins
 /// again, if it does, and the identity of the workbench, 0 if it has none. `changed` wakes workers, and `events` those who watch,
-/// who wait no longer if the workbench `is_closing`.
+/// who wait no longer if the workbench `is_closing`. `rests` counts how often there was nothing to take.
 pub struct Shared {
     pub(crate) state: Mutex<Locked>,
     pub(crate) callers: u32,
     pub(crate) changed: Condvar,
     pub(crate) events: Condvar,
     pub(crate) is_closing: AtomicBool,
+    pub(crate) rests: AtomicU64,
     pub(crate) rolls: Option<Rolling>,
     pub(crate) workbench: Identity,
 }
@@ -46,6 +47,7 @@ impl Drop for Shared {
             changed: _,
             events: _,
             is_closing: _,
+            rests: _,
             rolls: _,
             workbench: _,
         } = self;
@@ -55,8 +57,7 @@ impl Drop for Shared {
 /// A hold of the lock. It can't be dropped: each is ended, or waits.
 pub(crate) struct Hold<'a> {
     pub(crate) state: MutexGuard<'a, Locked>,
-    changed: &'a Condvar,
-    events: &'a Condvar,
+    shared: &'a Shared,
     // the number of the last event when it began
     last_event: u64,
 }
@@ -67,19 +68,20 @@ impl Hold<'_> {
     pub(crate) fn end(self) {
         let Self {
             state,
-            changed,
-            events,
+            shared,
             last_event,
         } = self;
         let mut state = state;
         let past = state.take_past();
         if state.calls_workers() {
-            changed.notify_all();
+            shared.changed.notify_all();
+        } else {
+            shared.count_rest();
         }
         let has_news = last_event < state.bench().last_event();
         drop(state);
         if has_news {
-            events.notify_all();
+            shared.events.notify_all();
         }
         drop(past);
     }
@@ -90,11 +92,11 @@ impl Hold<'_> {
     {
         let Self {
             state,
-            changed,
-            events: _,
+            shared,
             last_event: _,
         } = self;
-        drop(changed.wait(rt, state));
+        shared.count_rest();
+        drop(shared.changed.wait(rt, state));
     }
 }
 
@@ -133,6 +135,7 @@ impl Shared {
             changed: Condvar::new(),
             events: Condvar::new(),
             is_closing: AtomicBool::new(false),
+            rests: AtomicU64::new(0),
             rolls: None,
             workbench: Identity { high: 0, low: 0 },
         }
@@ -194,8 +197,7 @@ impl Shared {
         let last_event = state.bench().last_event();
         Hold {
             state,
-            changed: &self.changed,
-            events: &self.events,
+            shared: self,
             last_event,
         }
     }
@@ -402,6 +404,20 @@ impl Shared {
         self.events.notify_all();
     }
 
+    /// Whether watches were ended by `end_watches`.
+    pub fn is_closing(&self) -> bool {
+        self.is_closing.load(Ordering::SeqCst)
+    }
+
+    /// How often a call, or a worker's look for a job, has left nothing to take: whatever was pending then had been taken.
+    pub fn rests(&self) -> u64 {
+        self.rests.load(Ordering::SeqCst)
+    }
+
+    fn count_rest(&self) {
+        self.rests.fetch_add(1, Ordering::SeqCst);
+    }
+
     /// Makes the workers stop.
     pub fn stop<R: Wait>(&self, rt: &R) {
         let mut hold = self.enter(rt);
@@ -430,6 +446,7 @@ impl Shared {
             changed,
             events,
             is_closing,
+            rests,
             rolls,
             workbench,
         } = self;
@@ -449,6 +466,7 @@ impl Shared {
                     changed,
                     events,
                     is_closing,
+                    rests,
                     rolls,
                     workbench,
                 },

@@ -1,9 +1,13 @@
 //! How workers end, each by itself.
 use crate::play::played_shared;
-use crate::setup::{committed, faults_of, new_shared, word_of, work};
-use fb_shared::{Plain, WorkEnd};
+use crate::setup::{committed, faults_of, new_shared, pause, word_of, work, work_beside};
+use fb_shared::{Plain, Shared, WorkEnd};
 use std::alloc::Global;
+use std::sync::Wait;
+use std::sync::atomic::AtomicU64;
 use std::test::Fail;
+use std::thread::join;
+use std::time::Clock;
 
 // After two jobs in as many turns A is known, and the stop ends a worker, though there is a job.
 #[test]
@@ -38,5 +42,49 @@ fn workers_that_take_nothing(rt: HostRuntime) -> Result<(), Fail> {
     let (behind, none) = work(&rt, alloc, &fresh, &mut stranger, &Plain, 1);
     let is_behind = WorkEnd::Behind { seen: 5, len: 0 };
     assert_eq!(rt; (behind, none.len()), (is_behind, 0));
+    Ok(())
+}
+
+// looks each millisecond whether the workbench has come to this number of rests, and stops the workers at last
+fn stop_at_rest<R: Wait + Clock>(rt: &R, shared: &Shared, number: u64) -> bool {
+    for _ in 0..10_000u32 {
+        if number <= shared.rests() {
+            break;
+        }
+        pause(rt, 1);
+    }
+    let have_come = number <= shared.rests();
+    shared.stop(rt);
+    have_come
+}
+
+// A call that leaves nothing to take counts, whatever it is; one that leaves a key does not.
+#[test]
+fn rests_by_calls(rt: HostRuntime) -> Result<(), Fail> {
+    let (shared, mut first, mut second) = committed(&rt, rt.alloc(), 1000, &["A", "B"])?;
+    shared.take(&rt, &mut first)?;
+    assert_eq!(rt; shared.rests(), 0);
+    shared.take(&rt, &mut second)?;
+    assert_eq!(rt; shared.rests(), 1);
+    shared.give_back(&rt, &mut first, faults_of("A")?)?;
+    assert_eq!(rt; shared.rests(), 1);
+    shared.take(&rt, &mut second)?;
+    shared.ask(&rt, &mut first, faults_of("A")?)?;
+    assert_eq!(rt; shared.rests(), 3);
+    Ok(())
+}
+
+// The last take, its delivery, and the look after it.
+#[test]
+fn rests_of_a_worker(rt: HostRuntime) -> Result<(), Fail> {
+    let alloc: Global = rt.alloc();
+    let (shared, _first, second) = committed(&rt, alloc, 1000, &["A", "B"])?;
+    let ended = AtomicU64::new(0);
+    let told = join(
+        &rt,
+        || work_beside(&rt, alloc, &shared, second, &Plain, 10, &ended),
+        || stop_at_rest(&rt, &shared, 3),
+    );
+    assert_eq!(rt; told, ((WorkEnd::Stopped, 4), true));
     Ok(())
 }
