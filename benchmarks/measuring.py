@@ -75,7 +75,7 @@ def run(program, lines):
 @contextlib.contextmanager
 def server(program, verb, *words, **streams):
     """A server (`serve` or `host`) on a free port, and the port. It is killed at the end if it has not ended by itself."""
-    open_to_all = ["--open"] if verb == "host" else []
+    open_to_all = ["--open"] if verb == "host" and "--secret" not in words else []
     with subprocess.Popen([program, verb, "--port", "0", "--units", "16384", *open_to_all, *words], stdout=subprocess.PIPE, **streams) as process:
         try:
             yield process, int(process.stdout.readline().split(b":")[1])

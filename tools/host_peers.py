@@ -6,12 +6,9 @@ import sys
 import time
 from collections import deque
 
-import soaking
-from soaking import LONG_LINE, wrong
+from soaking import LONG_LINE, connected, wrong
 
-sys.path.insert(0, str(soaking.TOP / "clients" / "python"))
-
-from bench61499.secret import exchange_for  # noqa: E402
+from bench61499.secret import exchange_for
 
 SECRET = "a secret of this run"
 # How many bytes the first and the second line of a host have.
@@ -61,10 +58,6 @@ def has_seat(peer, lines):
         return False
     peer.sendall(ASK)
     return json.loads(lines.readline()) != {"refused": "NoSeat"}
-
-
-def connected(port):
-    return socket.create_connection(("127.0.0.1", port), timeout=120)
 
 
 def goes(port, *pieces, proves=True, reads=True):

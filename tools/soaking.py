@@ -1,16 +1,16 @@
 """What the soaks share: random plants, a model of revisions, the sessions of a server, and the comparison with a fresh workbench."""
-import argparse
 import copy
 import json
 import random
-import re
 import socket
 import subprocess
 import sys
+from concurrent.futures import wait
 from pathlib import Path
 
 TOP = Path(__file__).resolve().parent.parent
-sys.path.insert(0, str(TOP / "oracle"))
+# (first the oracle: the benchmarks have other plants)
+sys.path[:0] = [str(TOP / it) for it in ("oracle", "benchmarks", "clients/python")]
 
 import lines  # noqa: E402
 import machine  # noqa: E402
@@ -24,15 +24,6 @@ AREA = 200
 
 def wrong(why):
     raise AssertionError(why)
-
-
-def options(about, **numbers):
-    """A reader of arguments: of the program, and of numbers with what they are if they are not named."""
-    words = argparse.ArgumentParser(description=about.split("\n", maxsplit=1)[0])
-    for name, usual in numbers.items():
-        words.add_argument(f"--{name}", type=type(usual), default=usual)
-    words.add_argument("--program", default=str(TOP / "crates/bench61499/out/bench61499"))
-    return words
 
 
 class Area(plants.Plant):
@@ -134,32 +125,31 @@ REPLIES = {
     "take": {"job", "refused"},
     "deliver": {"delivered", "refused"},
     "give_back": {"returned", "refused"},
-    "checkpoint": {"refused"},
+    "checkpoint": {"checkpoint", "refused"},
 }
+# How many changes a commit has, none and too many among them, and how often.
+CHANGES, OFTEN = (0, 1, 2, 5, 17), (1, 60, 20, 10, 1)
 
 
-def started(program, *words, **streams):
-    """A server on a free port, and the port."""
-    words = [program, words[0], "--port", "0", "--units", str(UNITS), *map(str, words[1:])]
-    server = subprocess.Popen(words, stdout=subprocess.PIPE, stderr=subprocess.PIPE, text=True, **streams)
-    port = re.fullmatch(r"listening on 127\.0\.0\.1:(\d+)\n", server.stdout.readline())
-    return server, int(port[1])
+def connected(port):
+    return socket.create_connection(("127.0.0.1", port), timeout=120)
 
 
 class Session:
     """One connection: it sends requests in bursts, reads their replies, and keeps the commits that were accepted."""
 
-    def __init__(self, port, plant, chance, revisions, requests):
-        self.socket = socket.create_connection(("127.0.0.1", port))
-        self.stream = self.socket.makefile("rb")
+    BURSTS, IS_ALONE = (1, 5, 20, 60), False
+
+    def __init__(self, peer, plant, chance, revisions, requests):
+        self.socket, self.stream = peer, peer.makefile("rb")
         self.plant, self.chance, self.revisions, self.left = plant.led_by(chance), chance, revisions, requests
-        self.taken, self.made, self.commits, self.fault = 0, 0, [], None
+        self.taken, self.made, self.commits = 0, 0, []
 
     def request(self):
         chance, roll = self.chance, self.chance.random()
         key = {"kind": chance.choice(KINDS), "unit": chance.choice(self.plant.names)}
         if roll < 0.08:
-            return {"op": "commit", "changes": [self.change(at) for at in chance.sample(range(len(self.plant.names)), chance.choice((1, 1, 1, 2, 5)))]}
+            return {"op": "commit", "changes": [self.change(at) for at in chance.choices(range(len(self.plant.names)), k=chance.choices(CHANGES, OFTEN)[0])]}
         if roll < 0.18:
             return {"op": "work", "turns": chance.choice((1, 2, 10))}
         if roll < 0.22 and self.taken < 60:
@@ -174,6 +164,8 @@ class Session:
     def change(self, at):
         unit = self.plant.names[at]
         base = self.revisions.get(unit, 0)
+        if base and self.chance.random() < 0.05:
+            base -= 1
         if base and self.chance.random() < 0.08:
             return {"remove": unit, "base": base}
         return {"put": unit, "base": base, "text": self.plant.text(at)}
@@ -185,8 +177,12 @@ class Session:
             reply = json.loads(self.stream.readline())
             if reply.get("refused") != "BadRequest":
                 wrong(f"noise was answered {reply}")
-        for it in requests:
-            self.read(it)
+        return [self.read(it) for it in requests]
+
+    def replies(self, requests):
+        """The replies to these, which are sent in bursts."""
+        most = self.BURSTS[-1]
+        return [it for at in range(0, len(requests), most) for it in self.burst(requests[at : at + most])]
 
     def read(self, request):
         line = self.stream.readline()
@@ -195,7 +191,7 @@ class Session:
         reply = json.loads(line)
         if not REPLIES[request["op"]] & {*reply}:
             wrong(f"{request} was answered {reply}")
-        if request["op"] == "checkpoint" and reply != {"refused": "NotAlone"}:
+        if request["op"] == "checkpoint" and not self.IS_ALONE and reply != {"refused": "NotAlone"}:
             wrong(f"a checkpoint of a shared workbench was answered {reply}")
         self.made += 1
         if "commit" in reply:
@@ -210,16 +206,13 @@ class Session:
 
     def talk(self):
         while self.left > 0:
-            number = min(self.left, self.chance.choice((1, 5, 20, 60)))
+            number = min(self.left, self.chance.choice(self.BURSTS))
             self.left -= number
             self.burst([self.request() for _ in range(number)])
 
     def run(self):
-        try:
-            self.talk()
-            self.end()
-        except Exception as fault:
-            self.fault = fault
+        self.talk()
+        self.end()
 
     def end(self):
         self.socket.shutdown(socket.SHUT_WR)
@@ -238,15 +231,12 @@ class Keeper(Session):
     others = ()
 
     def end(self):
-        for it in self.others:
-            it.join()
+        wait(self.others)
         keys = [{"kind": kind, "unit": unit} for unit in self.plant.names for kind in KINDS]
         for _ in range(100):
-            asks = [{"op": "ask", **key} for key in keys]
-            self.socket.sendall(b"".join(json.dumps(it).encode() + b"\n" for it in asks))
-            self.answers = [self.read(it) for it in asks]
+            self.answers = self.replies([{"op": "ask", **key} for key in keys])
             pending = [key for key, it in zip(keys, self.answers) if it == {"answer": "pending"}]
             if not pending:
                 break
-            self.burst([{"op": "give_back", **key} for key in pending] + [{"op": "work", "turns": 1000}])
+            self.replies([{"op": "give_back", **key} for key in pending] + [{"op": "work", "turns": 1000}] * (len(pending) // 1000 + 1))
         super().end()
