@@ -7,6 +7,7 @@ import re
 import socket
 import subprocess
 import sys
+import tempfile
 import time
 from pathlib import Path
 
@@ -15,6 +16,7 @@ TOP = Path(__file__).resolve().parent.parent
 sys.path += [str(TOP / "clients" / it) for it in ("tests", "python")]
 PROGRAM = str(TOP / "crates/bench61499/out/bench61499")
 BATCH = 16
+SECRET = "a secret of this run"
 PORTS = "EVENT_INPUT I WITH X; END_EVENT EVENT_OUTPUT O WITH Y; END_EVENT VAR_INPUT X:INT; END_VAR VAR_OUTPUT Y:INT; END_VAR"
 BLOCK = f"FUNCTION_BLOCK B {PORTS} END_FUNCTION_BLOCK"
 
@@ -81,6 +83,15 @@ def server(program, verb, *words, **streams):
             yield process, int(process.stdout.readline().split(b":")[1])
         finally:
             process.kill()
+
+
+@contextlib.contextmanager
+def host(program, *words, **streams):
+    """A host with a secret, and its port."""
+    with tempfile.NamedTemporaryFile() as secret:
+        Path(secret.name).write_text(SECRET)
+        with server(program, "host", "--secret", secret.name, *words, **streams) as started:
+            yield started
 
 
 def peak(process):

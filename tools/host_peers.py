@@ -1,16 +1,20 @@
-"""The peers of a host's soak beside its engineers: those who use each seat, bad ones that come and go, and bad ones that stay."""
+"""The peers of a host's soak beside its engineers: those who use each seat, bad ones that come and go, and bad ones that stay.
+
+tools/host_peers.py PORT VISIT     is one of those that stay (or `comes_and_goes`), for benchmarks/team, until it is ended"""
 import contextlib
 import json
+import random
 import socket
 import sys
+import threading
 import time
 from collections import deque
 
 from soaking import LONG_LINE, connected, wrong
 
 from bench61499.secret import exchange_for
+from measuring import SECRET
 
-SECRET = "a secret of this run"
 # How many bytes the first and the second line of a host have.
 CHALLENGE_LINE, PROOF_LINE = 81, 77
 # How many silent connections there are at once, more than the host has threads for, for how many seconds, and how many come in each second of them.
@@ -248,3 +252,16 @@ class Stayers:
                 if time.monotonic() > begun + TOO_LONG:
                     wrong("a unit has no faults while another one commits without end")
         self.is_over.wait(PAUSE)
+
+
+def main(port, visit):
+    chance, stayers = random.Random(visit), Stayers(port, threading.Event())
+    while visit == "comes_and_goes":
+        passes_by(port, chance, True)
+    while True:
+        with connected(port) as peer:
+            getattr(stayers, visit)(peer)
+
+
+if __name__ == "__main__":
+    main(int(sys.argv[1]), sys.argv[2])
