@@ -28,8 +28,8 @@ TITLE = """# What the promises rest on
 
 A contract says no more than the definitions that it cites. To believe a promise, read its definitions, and trust what [TRUST.md](TRUST.md) lists. [PROVED.md](PROVED.md) follows one promise through them.
 
-The definitions are in layers. This page has the first, the machine, with any `needs`, `has_key` and `scratch`: it uses of these only their types and the law `locality`. The other pages define them, and
-what is built on the machine. `tools/headline.py --page reading` prints one; the page in a repository is that of this table if its checksum is the same, and `tools/check-docs` fails if it is not. (`tools/check-docs
+The definitions are in layers. This page has the first, the machine: its states, calls, steps and replies with any `rules` of keys. A workbench (`State`) has those of units, of which this page has only the
+types and the law `locality`. The other pages define them, and what is built on the machine. `tools/headline.py --page reading` prints one; the page in a repository is that of this table if its checksum is the same, and `tools/check-docs` fails if it is not. (`tools/check-docs
 --mend` makes this page and the table from the crates.)
 """
 HOW = """Each definition is after those that it uses and has the comment above it. What a page above has, and what the kit defines (numbers, lists, options, maps), is left out. If a law proves that a relation defines what
@@ -59,7 +59,7 @@ LAWS = {name: law.split(": ") for name, law in rows("law")}
 ITEM = re.compile(r"(?:abbrev |unfoldable )?(?:pub )?(record |data )?([^\s:(){}]+)(?= ?[:({]| :)")
 WORD = re.compile(r"(?<![\w'.])((?:[A-Za-z_][\w'-]*\.)*[A-Za-z_][\w'-]*|◌[^\s◌]+◌)")
 MODULE = re.compile(r"(?:pub )?use ([\w.]+)(?: as (\w+))?$")
-MUTUAL = re.compile(r"(?:abbrev |unfoldable )?mutual$")
+BLOCK = re.compile(r"(?:(?:abbrev |unfoldable )?mutual|module _ .*where)$")
 WORDS = {"abbrev", "pub", "record", "data", "where", "let", "in", "if", "then", "else", "Type", "use", "unfoldable", "module", "λ"}
 
 
@@ -105,10 +105,10 @@ def members_of(head, lines, indent):
 
 def indents(lines):
     """By how many blanks the definitions of each line of a file are set in: those of a module and of a `mutual` block by two."""
-    whole, inside = any(it.startswith("module _") for it in lines), False
+    inside = False
     for line in lines:
-        inside = bool(MUTUAL.match(line)) or inside and (not line.strip() or line.startswith("  "))
-        yield "  " if whole or inside else ""
+        inside = bool(BLOCK.match(line)) or inside and (not line.strip() or line.startswith("  "))
+        yield "  " if inside else ""
 
 
 def begins(lines, at, indent, current):
@@ -139,7 +139,7 @@ def read(path):
         above, behind = at, end
         while above > 0 and lines[above - 1].strip().startswith("-- ") and "----" not in lines[above - 1]:
             above -= 1
-        while behind > at + 1 and (not lines[behind - 1].strip() or lines[behind - 1].strip().startswith("--") or MUTUAL.match(lines[behind - 1])):
+        while behind > at + 1 and (not lines[behind - 1].strip() or lines[behind - 1].strip().startswith("--") or BLOCK.match(lines[behind - 1])):
             behind -= 1
         members = members_of(head[1], lines[at + 1 : behind], ahead[at])
         found[head[2]] = Definition(path, at + 1, head[2], textwrap.dedent("\n".join(lines[above:behind])), members)

@@ -6,12 +6,12 @@ use Rattle.fb_entries.specs.{Keyed.{Keyed, IsFirstReady, can_take, entry_at}, Li
 use Rattle.fb_entries.specs.{Jobs.declared.values.value.Value.{Value}, Jobs.Values.{finding_of}, Jobs.Hints.{AreKept}, Jobs.Keys.{Finding, has_key, needs, scratch}}
 use Rattle.fb_entries.specs.{Jobs.KeyOrder.{key_cmp, same_key}, declared.entry.Entry.{Entry}, Jobs.Reads.{PlainJob, reads_under, same_found, stale}, Found.{found_in, kept_in}}
 use Rattle.fb_entries.specs.Marking.{unless_kept, with_found, with_out, with_value, ChangesEntry, MarksKey, SameKeys}
-use Rattle.fb_history.specs.Machine.{State, OfTake, ToTake, is_ready, next, after_take, after_deliver, plain_job_for, removed, taken, unless_stale, deliver_answer}
+use Rattle.fb_history.specs.Machine.{State, OfTake, ToTake, is_ready, next, after_take, after_deliver, removed, taken, unless_stale, deliver_answer}
 use Rattle.fb_history.specs.BenchView.{BenchView, recorded, reply_at, state_of}
 use Rattle.fb_history.specs.{declared.answers.Delivered.{Delivered}, declared.answers.Delivered.TheVariants.{Accepted, NoSuchKey, NotPending, Stale}}
 use Rattle.fb_bench.specs.Consistent.{Agrees, EntryFits, IsScratch}
 use Rattle.fb_entries.proofs.Jobs.Order.{keys_equal}
-use Rattle.fb_history.proofs.{Least.{next_none, next_passes, next_some}, Steps.{after_take_is, reply_take, state_recorded}}
+use Rattle.fb_history.proofs.{Least.{next_none, next_passes, next_some}, Steps.{after_take_is, plain_job_for, reply_take, state_recorded}}
 
 pending_has : (s : State) (k : Key) (o : Option Entry) → EntryFits s k o → s.pending k ≡ true → has_key s.units k ≡ true
 pending_has s k None fits waits = cc

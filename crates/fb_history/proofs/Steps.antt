@@ -2,9 +2,9 @@
 use Rattle.std.proofs.Common.{◌≡◌, ℕ, List, [], ◌∷◌, ◌++◌, map, refl, sym, ap, ◌∙◌, Some, None, true, false, cond}
 use Rattle.fb_history.specs.{declared.answers.GivenBack.{GivenBack}, declared.answers.Delivered.{Delivered}}
 use Rattle.fb_history.specs.declared.answers.GivenBack.TheVariants.{Returned, NothingOut}
-use Rattle.fb_history.specs.Machine.{State, Call, Reply, after, reply, ToAsk, OfAsk, shown, ToTake, OfTake, taken, next, after_take, plain_job_for, ToDeliver, OfDeliver, deliver_answer, after_deliver, ToGiveBack, OfGiveBack, give_back_answer, after_give_back, removed, ToCommit, OfCommit, commit_answer, after_commit}
+use Rattle.fb_history.specs.Machine.{State, Call, Reply, after, reply, ToAsk, OfAsk, shown, ToTake, OfTake, taken, next, after_take, ToDeliver, OfDeliver, deliver_answer, after_deliver, ToGiveBack, OfGiveBack, give_back_answer, after_give_back, removed, ToCommit, OfCommit, commit_answer, after_commit}
 use Rattle.fb_history.specs.BenchView.{Record, BenchView, opened, replay, replies, calls_of, state_of, recorded, logged, record_after, record_of, IsReplay}
-use Rattle.fb_jobs.specs.{Library.Texts.{Texts, Edit}, declared.keys.key.Key.{Key}, Reads.{PlainJob, Seen}}
+use Rattle.fb_jobs.specs.{Library.Texts.{Texts, Edit}, declared.keys.key.Key.{Key}, Reads.{PlainJob, Seen, reads_for}}
 
 pub replay_more : (s : State) (calls : List Call) (call : Call) → replay s (calls ++ call ∷ []) ≡ after (replay s calls) call
 unfolding replay
@@ -60,6 +60,10 @@ take_none s none = ap (λ o. OfTake (taken o s)) none ∙ sym (reply_take s)
 
 pub stays_none : (s : State) → None ≡ next s → after s ToTake ≡ s
 stays_none s none = after_take_is s ∙ ap (λ o. after_take o s) (sym none)
+
+-- a job for the key, as it is read of texts
+abbrev pub plain_job_for : Texts → Key → PlainJob
+plain_job_for texts key = record { key = key; reads = reads_for texts key }
 
 pub take_some : (s : State) (units : Texts) (k : Key) (job : PlainJob) (key : Key) (reads : List Seen) → units ≡ s.units → job ≡ plain_job_for units k → key ≡ job.key → reads ≡ job.reads → Some k ≡ next s → OfTake (Some (record { key = key; reads = reads })) ≡ reply s ToTake
 take_some s units k job key reads same is at read some =

@@ -2,8 +2,8 @@
 use Rattle.std.specs.Prelude.{◌≡◌, ℕ, ◌+◌, ◌-◌, ◌≤◌, false, List, [], ◌∷◌, ◌++◌, map, ◌==◌, count_by, take, length, slice_get, Option, Some, None, unwrap_or, zero, suc}
 use Rattle.std.specs.{BTreeMap.{insert_entry, is_at}, List.Sorted.{IsStrictlySortedBy}, Map.{lookup}, Ordering.{nat_cmp}, List.{list_any}}
 use Rattle.fb_text.specs.Order.{name_cmp}
-use Rattle.fb_jobs.specs.{Library.Texts.{Texts, names_of}, declared.keys.key.Key.{Key}, Keys.{has_key}, KeyOrder.{same_key}}
-use Rattle.fb_history.specs.Machine.{State, Call, Reply, after, reply}
+use Rattle.fb_jobs.specs.{Library.Texts.{Texts, names_of}, declared.keys.key.Key.{Key}, Keys.{has_key}, KeyOrder.{same_key}, Rules.{Rules}}
+use Rattle.fb_history.specs.Machine.{StateBy, State, Call, Reply, after, reply}
 
 -- one recorded call with its answer. `turn` counts the caller's calls up to this one
 pub record Record : Type 0 where
@@ -72,12 +72,12 @@ pub record BenchView : Type 0 where
   pub log : Log
 
 -- the state after the calls
-unfoldable pub replay : State → List Call → State
+unfoldable pub replay : {rules : Rules} → StateBy rules → List Call → StateBy rules
 replay state [] = state
 replay state (call ∷ calls) = replay (after state call) calls
 
 -- the replies to the calls
-unfoldable pub replies : State → List Call → List Reply
+unfoldable pub replies : {rules : Rules} → StateBy rules → List Call → List Reply
 replies state [] = []
 replies state (call ∷ calls) = reply state call ∷ replies (after state call) calls
 

@@ -1,9 +1,9 @@
 -- What holds of a workbench after any calls.
 use Rattle.std.specs.Prelude.{◌≡◌, ℕ, Bool, true, false, not, List, if◌then◌else◌}
-use Rattle.fb_jobs.specs.{Library.Texts.{Texts}, declared.keys.key.Key.{Key}, Keys.{has_key, scratch}}
+use Rattle.fb_jobs.specs.{Library.Texts.{Texts}, declared.keys.key.Key.{Key}, Rules.{Rules}}
 use Rattle.fb_history.specs.declared.answers.Committed.{Committed}
 use Rattle.fb_history.specs.declared.answers.Committed.TheVariants.{Done, NoChange, TooManyChanges, SameUnitTwice, StaleBase, NoSuchUnit, TooManyUnits}
-use Rattle.fb_history.specs.Machine.{State, Call, Reply, OfCommit, OfTake, OfDeliver, OfGiveBack, OfAsk, Shown, Finds, Waits, Unknown, shown, reply, after, reaches}
+use Rattle.fb_history.specs.Machine.{StateBy, Call, Reply, OfCommit, OfTake, OfDeliver, OfGiveBack, OfAsk, Shown, Finds, Waits, Unknown, shown, reply, after, reaches}
 use Rattle.fb_history.specs.{declared.answers.Delivered.{Delivered}, declared.answers.Delivered.TheVariants.{Accepted, NoSuchKey, NotPending, Stale}}
 use Rattle.fb_history.specs.{declared.answers.GivenBack.{GivenBack}, declared.answers.GivenBack.TheVariants.{Returned, NothingOut}}
 use Rattle.fb_history.specs.{BenchView.{Origin, opened, replay}, Due.{due_from}}
@@ -43,17 +43,20 @@ is_refusal (OfAsk shown) = refuses_question shown
 
 -- What is known of a key after some calls: nothing if the present texts don't have it; that it is pending while no current
 -- result has come since the last commit that made or reached it; otherwise the value of the present texts, from scratch.
+abbrev pub entry_from : {rules : Rules} → StateBy rules → List Call → Key → Shown
+entry_from {rules} state calls key =
+    let texts = (replay state calls).units in
+    if not (rules.has_key texts key) then Unknown else (if due_from state calls key then Waits else Finds (rules.scratch texts key))
+
 abbrev pub entry_after : Origin → List Call → Key → Shown
-entry_after origin calls key =
-    let texts = (replay (opened origin) calls).units in
-    if not (has_key texts key) then Unknown else (if due_from (opened origin) calls key then Waits else Finds (scratch texts key))
+entry_after origin = entry_from (opened origin)
 
 -- after any calls, what is known of each key is what the calls and the present texts determine
 abbrev pub EntriesFollow : Origin → Type 0
 EntriesFollow origin = (calls : List Call) (key : Key) → shown (replay (opened origin) calls) key ≡ entry_after origin calls key
 
 -- a call that is refused in this state changes nothing
-abbrev pub RefusalsStay : State → Type 0
+abbrev pub RefusalsStay : {rules : Rules} → StateBy rules → Type 0
 RefusalsStay state = (call : Call) → is_refusal (reply state call) ≡ true → after state call ≡ state
 
 -- the changed names reach the same keys in both

@@ -7,6 +7,7 @@ pub mod Values
 pub mod Texts
 pub mod Replaced
 pub mod Cache
+pub mod Rules
 pub mod Reach
 pub mod Hints
 pub mod Cached

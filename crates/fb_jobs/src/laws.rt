@@ -3,8 +3,8 @@ ghost use Rattle.std.specs.{Prelude.{◌≡◌, ℕ, List, None, Some}, List.{Co
 ghost use Rattle.fb_text.specs.Order.{name_cmp};
 ghost use Rattle.fb_deploy.specs.Library.Texts.{Texts};
 ghost use Rattle.fb_jobs.specs.{declared.keys.key.Key.{Key}, declared.keys.key.Kind.{Kind}, Hints.{IsNetOf}, KeyOrder.{kind_cmp}, declared.kept.hints.Hint.{Hint}};
-ghost use Rattle.fb_jobs.specs.{Work.{IsFoundFor}, Kinds.{all_kinds}, Keys.{has_key, needs, scratch}};
-ghost use Rattle.fb_jobs.specs.Reads.{Agree, PlainJob, IsLeastStale, IsRight, read_names, read_texts, stale};
+ghost use Rattle.fb_jobs.specs.{Work.{IsFoundFor}, Kinds.{all_kinds}, Keys.{needs, scratch}, Rules.{AreLocal, unit_rules}};
+ghost use Rattle.fb_jobs.specs.Reads.{PlainJob, IsLeastStale, IsRight, read_names, read_texts, stale};
 
 /// Each kind is one of all kinds, and these are in order, each once.
 pub fn kinds_in_order()
@@ -14,12 +14,7 @@ pub fn kinds_in_order()
 
 /// Texts that agree on what a key needs have the same needs and the same value for it, whatever their revisions.
 pub fn locality()
-    ensures needs { (texts others : Texts) (key : Key) → Agree texts others (needs texts key)
-        → needs others key ≡ needs texts key }
-    ensures has { (texts others : Texts) (key : Key) → Agree texts others (needs texts key)
-        → has_key others key ≡ has_key texts key }
-    ensures value { (texts others : Texts) (key : Key) → Agree texts others (needs texts key)
-        → scratch others key ≡ scratch texts key }
+    ensures { AreLocal unit_rules }
 {}
 
 /// Reads that are right for their key and current have the value of the present texts.
