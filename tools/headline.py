@@ -29,8 +29,8 @@ TITLE = """# What the promises rest on
 A contract says no more than the definitions that it cites. To believe a promise, read its definitions, and trust what [TRUST.md](TRUST.md) lists. [PROVED.md](PROVED.md) follows one promise through them.
 
 The definitions are in layers. This page has the first, the machine: its states, calls, steps and replies with any `rules` of keys. A workbench (`State`) has those of units, of which this page has only the
-types and the law `locality`. The other pages define them, and what is built on the machine. `tools/headline.py --page reading` prints one; the page in a repository is that of this table if its checksum is the same, and `tools/check-docs` fails if it is not. (`tools/check-docs
---mend` makes this page and the table from the crates.)
+types and the law `locality`. The other pages define them, and what is built on the machine. `tools/headline.py --page reading` prints one; the page in a repository is that of this table if its checksum is
+the same, and `tools/check-docs` fails if it is not. (`tools/check-docs --mend` makes this page and the table from the crates.)
 """
 HOW = """Each definition is after those that it uses and has the comment above it. What a page above has, and what the kit defines (numbers, lists, options, maps), is left out. If a law proves that a relation defines what
 a function computes, the function has the law in place of its equations.

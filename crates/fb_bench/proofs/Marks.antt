@@ -6,12 +6,12 @@ use Rattle.fb_entries.specs.{Keyed.{Keyed, IsFirstReady, can_take, entry_at}, Li
 use Rattle.fb_entries.specs.{Jobs.declared.values.value.Value.{Value}, Jobs.Values.{finding_of}, Jobs.Hints.{AreKept}, Jobs.Keys.{Finding, has_key, needs, scratch}}
 use Rattle.fb_entries.specs.{Jobs.KeyOrder.{key_cmp, same_key}, declared.entry.Entry.{Entry}, Jobs.Reads.{PlainJob, reads_under, same_found, stale}, Found.{found_in, kept_in}}
 use Rattle.fb_entries.specs.Marking.{unless_kept, with_found, with_out, with_value, ChangesEntry, MarksKey, SameKeys}
-use Rattle.fb_history.specs.Machine.{State, OfTake, ToTake, is_ready, next, after_take, after_deliver, removed, taken, unless_stale, deliver_answer}
+use Rattle.fb_history.specs.Machine.{State, OfTake, ToTake, is_ready, next, after_take, after_deliver, removed, taken, taken_job, unless_stale, deliver_answer}
 use Rattle.fb_history.specs.BenchView.{BenchView, recorded, reply_at, state_of}
 use Rattle.fb_history.specs.{declared.answers.Delivered.{Delivered}, declared.answers.Delivered.TheVariants.{Accepted, NoSuchKey, NotPending, Stale}}
 use Rattle.fb_bench.specs.Consistent.{Agrees, EntryFits, IsScratch}
 use Rattle.fb_entries.proofs.Jobs.Order.{keys_equal}
-use Rattle.fb_history.proofs.{Least.{next_none, next_passes, next_some}, Steps.{after_take_is, plain_job_for, reply_take, state_recorded}}
+use Rattle.fb_history.proofs.{Least.{next_none, next_passes, next_some}, Steps.{after_take_is, reply_take, state_recorded}}
 
 pending_has : (s : State) (k : Key) (o : Option Entry) → EntryFits s k o → s.pending k ≡ true → has_key s.units k ≡ true
 pending_has s k None fits waits = cc
@@ -124,7 +124,7 @@ accepted_for : (s : State) (key : Option Key) (job : PlainJob) → next s ≡ ke
 accepted_for s None job is handed has = cc
 accepted_for s (Some key) job is handed has =
     let waits : s.pending key ≡ true = (and_parts (s.pending key) (not (s.out key)) (next_passes s key (sym is))).0 in
-    let same : job ≡ plain_job_for s.units key = cc in
+    let same : job ≡ taken_job s key = cc in
     rw (same, has key waits, waits, fresh_under s.units (needs s.units key)) refl
 
 -- what was just taken is accepted

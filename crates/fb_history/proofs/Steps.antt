@@ -61,14 +61,10 @@ take_none s none = ap (λ o. OfTake (taken o s)) none ∙ sym (reply_take s)
 pub stays_none : (s : State) → None ≡ next s → after s ToTake ≡ s
 stays_none s none = after_take_is s ∙ ap (λ o. after_take o s) (sym none)
 
--- a job for the key, as it is read of texts
-abbrev pub plain_job_for : Texts → Key → PlainJob
-plain_job_for texts key = record { key = key; reads = reads_for texts key }
-
-pub take_some : (s : State) (units : Texts) (k : Key) (job : PlainJob) (key : Key) (reads : List Seen) → units ≡ s.units → job ≡ plain_job_for units k → key ≡ job.key → reads ≡ job.reads → Some k ≡ next s → OfTake (Some (record { key = key; reads = reads })) ≡ reply s ToTake
+pub take_some : (s : State) (units : Texts) (k : Key) (job : PlainJob) (key : Key) (reads : List Seen) → units ≡ s.units → job ≡ record { key = k; reads = reads_for units k } → key ≡ job.key → reads ≡ job.reads → Some k ≡ next s → OfTake (Some (record { key = key; reads = reads })) ≡ reply s ToTake
 take_some s units k job key reads same is at read some =
     (λ i. OfTake (Some (record { key = (at ∙ ap (λ (o : PlainJob). o.key) is) i; reads = (read ∙ ap (λ (o : PlainJob). o.reads) is) i })))
-    ∙ ap (λ us. OfTake (Some (plain_job_for us k))) same
+    ∙ ap (λ us. OfTake (Some (record { key = k; reads = reads_for us k }))) same
     ∙ ap (λ o. OfTake (taken o s)) some
     ∙ sym (reply_take s)
 

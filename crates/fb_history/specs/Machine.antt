@@ -9,7 +9,7 @@ use Rattle.fb_history.specs.declared.answers.Committed.TheVariants.{Done, NoChan
 use Rattle.fb_history.specs.{declared.answers.Delivered.{Delivered}, declared.answers.Delivered.TheVariants.{Accepted, NoSuchKey, NotPending, Stale}}
 use Rattle.fb_history.specs.{declared.answers.GivenBack.{GivenBack}, declared.answers.GivenBack.TheVariants.{Returned, NothingOut}}
 
--- the texts, the number of good commits, which keys are pending, and which are handed out. It holds no value
+-- a state with these rules: the texts, the number of good commits, which keys are pending, and which are handed out. It holds no value
 pub record StateBy (rules : Rules) : Type 0 where
   pub most_units : ℕ
   pub units : Texts
@@ -17,7 +17,7 @@ pub record StateBy (rules : Rules) : Type 0 where
   pub pending : Key → Bool
   pub out : Key → Bool
 
--- that of a workbench
+-- a state of a workbench
 abbrev pub State : Type 0
 State = StateBy unit_rules
 
