@@ -58,7 +58,7 @@ fn stop_at_rest<R: Wait + Clock>(rt: &R, shared: &Shared, number: u64) -> bool {
     have_come
 }
 
-// A call that leaves nothing to take counts, whatever it is; one that leaves a key does not.
+// A call of any kind that leaves nothing to take counts; one that leaves a key does not.
 #[test]
 fn rests_by_calls(rt: HostRuntime) -> Result<(), Fail> {
     let (shared, mut first, mut second) = committed(&rt, rt.alloc(), 1000, &["A", "B"])?;
