@@ -45,7 +45,7 @@ fn workers_that_take_nothing(rt: HostRuntime) -> Result<(), Fail> {
     Ok(())
 }
 
-// looks each millisecond whether the workbench has come to this number of rests, and then stops the workers
+// looks each millisecond whether this number of rests is reached, and then stops the workers
 fn stop_at_rest<R: Wait + Clock>(rt: &R, shared: &Shared, number: u64) -> bool {
     for _ in 0..10_000u32 {
         if number <= shared.rests() {
