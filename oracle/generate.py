@@ -377,31 +377,33 @@ class Gen:
         return [word, name, ":", ty] + (self.params("A") if self.chance(0.1) else []) + ([";"] if self.chance(0.3) else [])
 
     def system(self, p):
-        parts, paths = [], []
-        for a, insts in p["apps"]:
-            secs = self.inst_sections(insts) + self.connections(None, insts, "app")
-            if self.chance(0.4):
-                self.r.shuffle(secs)
-            parts.append(["APPLICATION", a] + [t for s in secs for t in s] + ["END_APPLICATION"])
-            paths.append([a])
-            paths += [[a, n] for n, _, _ in insts]
-        devs = []
-        for d in self.distinct(["D1", "D2", "X"], 0, 2):
-            res = self.distinct(["R1", "R2", "X"], 0, 3)
-            s = self.declared("DEVICE", d, "DT")
-            for x in res:
-                s += self.declared("RESOURCE", x, "RT") + ["END_RESOURCE"]
-            parts.append(s + ["END_DEVICE"])
-            devs += [(d, x) for x in res]
-        items = []
-        for _ in range(self.several(0, 5)):
-            path = self.pick(paths) if paths and not self.bad(0.2) else [self.pick(["APP", "ON", "X", "Q"]) for _ in range(self.several(1, 4))]
-            d = self.pick(devs) if devs and not self.bad(0.2) else (self.pick(["D1", "D2", "X"]), self.pick(["R1", "X"]))
-            items.append([*" . ".join(path).split(), "ON", d[0], ".", d[1], ";"])
-        parts += self.split("MAPPINGS", items, "END_MAPPINGS")
-        if self.chance(0.4):
-            self.r.shuffle(parts)
-        return [t for s in parts for t in s]
+        parts = [["APPLICATION", a, *sum(self.inst_sections(insts) + self.connections(None, insts, "app"), []), "END_APPLICATION"] for a, insts in p["apps"]]
+        resources = []
+        for device in self.distinct(["D1", "D2", "X"], 1, 2):
+            names = self.distinct(["R1", "R2", "X"], 0 if resources else 1, 3)
+            resources += [[device, ".", name] for name in names]
+            inner = [[*self.declared("RESOURCE", name, "RT"), "END_RESOURCE"] for name in names]
+            parts.append([*self.declared("DEVICE", device, "DT"), *sum(inner, []), "END_DEVICE"])
+        parts += self.split("MAPPINGS", self.mappings(p, resources), "END_MAPPINGS")
+        self.r.shuffle(parts)
+        return sum(parts, [])
+
+    def mappings(self, p, resources):
+        """Most applications, some of what they hold, and now and then what is not there or was mapped before."""
+        paths = [[a] for a, _ in p["apps"] if self.chance(0.9)]
+        inner = [path for a, insts in p["apps"] for path in self.paths([a], insts, 4)]
+        often = self.pick([0.1, 0.4, 0.8])
+        paths += [path for path in inner[:40] if self.chance(often)]
+        paths += [self.pick(inner or [["Z"]]) + ["NONE"]] if self.chance(0.06) else []
+        paths += [self.pick(paths)] if paths and self.bad(0.4) else []
+        self.r.shuffle(paths)
+        return [[*" . ".join(path).split(), "ON", *(["D1", ".", "NONE"] if self.bad(0.2) else self.pick(resources)), ";"] for path in paths]
+
+    def paths(self, path, insts, depth):
+        for name, role, kind in insts:
+            yield path + [name]
+            if role == "sub" and depth and kind in self.plan:
+                yield from self.paths(path + [name], self.plan[kind]["insts"], depth - 1)
 
     # -- charts
     def chart(self, p):

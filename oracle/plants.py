@@ -112,33 +112,6 @@ class Plant(Gen):
                 items.append(source[0] + ["TO"] + to[0] + [";"])
         return items
 
-    def system(self, p):
-        parts = [["APPLICATION", a, *sum(self.inst_sections(insts) + self.connections(None, insts, "app"), []), "END_APPLICATION"] for a, insts in p["apps"]]
-        resources = []
-        for device in self.distinct(["D1", "D2", "X"], 1, 2):
-            names = self.distinct(["R1", "R2", "X"], 0 if resources else 1, 3)
-            resources += [[device, ".", name] for name in names]
-            parts.append(["DEVICE", device, ":", "DT", *sum((["RESOURCE", n, ":", "RT", "END_RESOURCE"] for n in names), []), "END_DEVICE"])
-        parts += self.split("MAPPINGS", self.mappings(p, resources), "END_MAPPINGS")
-        self.r.shuffle(parts)
-        return sum(parts, [])
-
-    def mappings(self, p, resources):
-        """Most applications, some of what they hold, and now and then what is not there."""
-        paths = [[a] for a, _ in p["apps"] if self.chance(0.93)]
-        inner = [path for a, insts in p["apps"] for path in self.paths([a], insts, 4)]
-        often = self.pick([0.1, 0.4, 0.8])
-        paths += [path for path in inner[:40] if self.chance(often)]
-        paths += [self.pick(inner or [["Z"]]) + ["NONE"]] if self.chance(0.06) else []
-        self.r.shuffle(paths)
-        return [[*" . ".join(path).split(), "ON", *self.pick(resources), ";"] for path in paths]
-
-    def paths(self, path, insts, depth):
-        for name, role, kind in insts:
-            yield path + [name]
-            if role == "sub" and depth and kind in self.plan:
-                yield from self.paths(path + [name], self.plan[kind]["insts"], depth - 1)
-
 
 def large(rng):
     """A plant whose subapplication and system have 4,096 instances, or some more or less."""

@@ -5,6 +5,7 @@ import os
 import re
 from collections import defaultdict
 from dataclasses import dataclass
+from pathlib import Path
 
 TOP = os.path.dirname(os.path.dirname(os.path.abspath(__file__)))
 FIVE = ("commit", "take", "deliver", "give_back", "ask")
@@ -57,8 +58,7 @@ class Item:
 
 @functools.cache
 def text_of(path):
-    with open(f"{TOP}/{path}", encoding="utf-8") as lines:
-        return lines.read()
+    return Path(TOP, path).read_text()
 
 
 def table(heads, rows, rule=" --- "):

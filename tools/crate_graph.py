@@ -1,14 +1,14 @@
 """The graph of crates, for the tools of this folder."""
+from pathlib import Path
 
 
 def read(file):
     """The crates that a file like crates.txt names, in its order, each with those of them that its line names."""
     named = {}
-    with open(file, encoding="utf-8") as lines:
-        for line in lines:
-            crate, _, used = line.partition("#")[0].partition(":")
-            if crate.strip():
-                named[crate.split()[0]] = used.replace(",", " ").split()
+    for line in Path(file).read_text().splitlines():
+        crate, _, used = line.partition("#")[0].partition(":")
+        if crate.strip():
+            named[crate.split()[0]] = used.replace(",", " ").split()
     return {crate: [it for it in used if it in named] for crate, used in named.items()}
 
 

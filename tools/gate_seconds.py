@@ -3,6 +3,7 @@ import csv
 import glob
 import os
 import re
+from pathlib import Path
 
 import crate_graph
 from code_parts import TOP, table
@@ -19,9 +20,7 @@ def last(name):
 
 def rows_of(file):
     """The rows of a file with a line on what it is, a line that names its columns, and cells with tabs between them."""
-    with open(file, encoding="utf-8") as lines:
-        next(lines)
-        return list(csv.DictReader(lines, delimiter="\t", quoting=csv.QUOTE_NONE))
+    return list(csv.DictReader(Path(file).read_text().splitlines()[1:], delimiter="\t", quoting=csv.QUOTE_NONE))
 
 
 def last_run():
@@ -36,8 +35,7 @@ def seconds_of_proofs():
 
 def run():
     file = last("whole-*.tsv")
-    with open(file, encoding="utf-8") as lines:
-        date, *cells, core = HEAD.match(next(lines)).groups()
+    date, *cells, core = HEAD.match(Path(file).read_text()).groups()
     return table(["Run", "Kit", "Machine", "Crates", "Edits", "Minutes", "Minutes of one core"], [[f"[{date}](gate/{os.path.basename(file)})", *cells, f"{float(core):.0f}"]])
 
 

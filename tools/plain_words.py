@@ -17,9 +17,10 @@ import os
 import re
 import sys
 import tokenize
+from pathlib import Path
 
 TOP = os.path.dirname(os.path.dirname(os.path.abspath(__file__)))
-KNOWN = f"{TOP}/tools/plain_words.known"
+KNOWN = Path(TOP, "tools/plain_words.known")
 MADE = "docs/SHOWN.md"
 # The groups of sources by their places, each with how it marks a comment; None is Python.
 SOURCES = (
@@ -46,13 +47,12 @@ CODE = re.compile(r"^<!-- (?:made|measured): (?s:.*?)^<!-- end -->$|^```(?s:.*?)
 def forms_of_file():
     """The forms of tools/plain_words.forms with what is clearer: those for comments and pages, and those for pages alone."""
     parts = []
-    with open(f"{TOP}/tools/plain_words.forms", encoding="utf-8") as lines:
-        for line in lines:
-            if line.startswith("#"):
-                parts.append([])
-            else:
-                form, _, better = line.rstrip("\n").partition(" = ")
-                parts[-1].append((re.compile(rf"\b(?:{form})\b", re.I), better))
+    for line in Path(TOP, "tools/plain_words.forms").read_text().splitlines():
+        if line.startswith("#"):
+            parts.append([])
+        else:
+            form, _, better = line.partition(" = ")
+            parts[-1].append((re.compile(rf"\b(?:{form})\b", re.I), better))
     return parts
 
 
@@ -112,22 +112,20 @@ def groups():
             name = f"{os.path.relpath(folder, TOP)} {kind}"
             for path in sorted(glob.glob(f"{folder}/{files}", recursive=True)):
                 if os.path.isfile(path) and "/out/" not in path and "/__pycache__/" not in path and is_of(path, kind):
-                    with open(path, encoding="utf-8") as file:
-                        found.setdefault(name, []).extend(words for _, words in sorted(found_in(os.path.relpath(path, TOP), comments(file.read(), mark))))
+                    said = comments(Path(path).read_text(), mark)
+                    found.setdefault(name, []).extend(words for _, words in sorted(found_in(os.path.relpath(path, TOP), said)))
     return found
 
 
 def known():
     """How many words each group may have that has some."""
-    with open(KNOWN, encoding="utf-8") as lines:
-        return {name.rstrip("\n"): int(count) for count, name in (line.split(" ", 1) for line in lines)}
+    return {name: int(count) for count, name in (line.split(" ", 1) for line in KNOWN.read_text().splitlines())}
 
 
 def lower():
     """Lowers the numbers of the groups that have fewer now."""
     counts = {name: min(count, len(groups().get(name, []))) for name, count in known().items()}
-    with open(KNOWN, "w", encoding="utf-8") as file:
-        file.writelines(f"{count} {name}\n" for name, count in sorted(counts.items()) if count)
+    KNOWN.write_text("".join(f"{count} {name}\n" for name, count in sorted(counts.items()) if count))
 
 
 def faults_of_sources():
@@ -154,8 +152,7 @@ def main(places):
             print(f"plain_words: there is no file and no group {place}", file=sys.stderr)
             return 2
         else:
-            with open(place, encoding="utf-8") as it:
-                found += [words for _, words in sorted(found_in(place, it.read()))]
+            found += [words for _, words in sorted(found_in(place, Path(place).read_text()))]
     print(*found, sep="\n", end="\n" if found else "")
     return 1 if found else 0
 
