@@ -37,7 +37,7 @@ SOURCES = (
     ("editors", "**/*.vim", r'^\s*" ?(.*)$', "Vim"),
     ("editors", "**/*.el", r"^\s*;+ ?(.*)$", "Emacs"),
     *((place, files, r"(?:^|\s)# ?(.*)$", files) for place, files in (
-        ("tools", "*.rows"), ("oracle/tests", "*.examples"), ("packaging", "completions/*"), ("packaging", "Dockerfile"), ("packaging", "*.service"),
+        ("tools", "*.rows"), ("oracle/tests", "*.examples"), ("packaging", "share/*/*/*"), ("packaging", "Dockerfile"), ("packaging", "lib/**/*.service"),
         ("examples", "*.y*ml"), (".", ".*.yaml"), ("benchmarks/plain", "*.toml"), ("clients", "*.toml"))),
     *((place, files, r"(?:^|\s)# (.*)$", "shell") for place, files in ((".", "run"), (".ci", "*"), ("tools", "*"), ("packaging", "*"), ("clients/tests", "*"))),
 )

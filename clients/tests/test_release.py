@@ -19,6 +19,7 @@ from support import CLIENTS, CONVEYOR, InFolder, run, workbench
 
 TOP = CLIENTS.parent
 PACKAGING = TOP / "packaging"
+SHARE, UNIT = PACKAGING / "share", PACKAGING / "lib" / "systemd" / "system" / "bench61499.service"
 PLAIN = {"PATH": "/usr/bin:/bin", "LANG": "C.UTF-8"}
 """The surroundings of a machine that has no kit."""
 
@@ -238,7 +239,7 @@ class WordsTest(InFolder):
     """Man page, completions, unit and Dockerfile against the help of the program."""
 
     def test_the_man_page_has_all_options_and_their_defaults(self) -> None:
-        page = (PACKAGING / "bench61499.1").read_text().replace("\\-", "-")
+        page = (SHARE / "man/man1/bench61499.1").read_text().replace("\\-", "-")
         parts = re.findall(r"^\.SS (\w+)\n(.*?)(?=^\.S[SH] )", page, re.M | re.S)
         described = {name: re.findall(r"^\.BI? (--\w+).*\n(?:(?!\.TP).*\n)*?.*?(?:default is (\d+)|(?=\.TP|\.S|\Z))", part, re.M) for name, part in parts}
         expected = {name: {option: default for option, default in its.items() if option != "--help"} for name, its in commands().items()}
@@ -249,7 +250,7 @@ class WordsTest(InFolder):
 
     @unittest.skipUnless(shutil.which("groff"), "groff is not installed")
     def test_the_man_page_can_be_set(self) -> None:
-        ran = subprocess.run(["groff", "-ww", "-man", "-Tutf8", PACKAGING / "bench61499.1"], capture_output=True, text=True)
+        ran = subprocess.run(["groff", "-ww", "-man", "-Tutf8", SHARE / "man/man1/bench61499.1"], capture_output=True, text=True)
         self.assertEqual((ran.stderr, ran.returncode), ("", 0))
 
     def completed(self, shell: str, script: str) -> None:
@@ -258,19 +259,19 @@ class WordsTest(InFolder):
             self.skipTest(f"{shell} is not installed")
         asked = {"": {*commands(), "help"}} | {name: set(its) for name, its in commands().items()}
         for name, expected in asked.items():
-            found = subprocess.run([shell, "-c", script, shell, name], cwd=PACKAGING / "completions", capture_output=True, text=True)
+            found = subprocess.run([shell, "-c", script, shell, name], cwd=SHARE, capture_output=True, text=True)
             self.assertEqual((set(found.stdout.split()) - ({"--help"} - expected), found.stderr), (expected, ""), f"{shell}: {name}")
 
     def test_bash(self) -> None:
-        script = 'source ./bench61499.bash; COMP_WORDS=(bench61499 $1 ${1:+--}); COMP_CWORD=$((${#1} ? 2 : 1)); _bench61499; echo "${COMPREPLY[@]}"'
+        script = 'source bash-completion/completions/bench61499; COMP_WORDS=(bench61499 $1 ${1:+--}); COMP_CWORD=$((${#1} ? 2 : 1)); _bench61499; echo "${COMPREPLY[@]}"'
         self.completed("bash", script)
 
     def test_zsh(self) -> None:
         takes = '_arguments() { print -l -- ${@%%\\[*} }; _values() { shift; print -l -- ${@%%\\[*} }; words=(bench61499 $1 --); CURRENT=$(( $#1 ? 3 : 2 )); '
-        self.completed("zsh", takes + "source ./_bench61499")
+        self.completed("zsh", takes + "source zsh/site-functions/_bench61499")
 
     def test_fish(self) -> None:
-        script = 'source bench61499.fish; set -l dashes (test -n "$argv[2]"; and echo " --"); complete -C "bench61499 $argv[2]$dashes" | string replace -r "\\t.*" ""'
+        script = 'source fish/vendor_completions.d/bench61499.fish; set -l dashes (test -n "$argv[2]"; and echo " --"); complete -C "bench61499 $argv[2]$dashes" | string replace -r "\\t.*" ""'
         self.completed("fish", script)
 
     def secret(self) -> Path:
@@ -288,7 +289,7 @@ class WordsTest(InFolder):
         self.assertTrue(line.startswith("listening on 127.0.0.1:"), line)
 
     def test_the_unit_starts_a_server(self) -> None:
-        unit = (PACKAGING / "bench61499.service").read_text()
+        unit = UNIT.read_text()
         started = re.search(r"^ExecStart=(.*)", unit, re.M)[1].replace("${CREDENTIALS_DIRECTORY}/secret", str(self.secret()))
         self.assertIn("\nLoadCredential=secret:", unit)
         program, *words = shlex.split(started)
@@ -306,16 +307,16 @@ class WordsTest(InFolder):
 
     @unittest.skipUnless(shutil.which("systemd-analyze"), "systemd is not installed")
     def test_systemd_takes_the_unit(self) -> None:
-        ran = subprocess.run(["systemd-analyze", "verify", PACKAGING / "bench61499.service"], capture_output=True, text=True)
+        ran = subprocess.run(["systemd-analyze", "verify", UNIT], capture_output=True, text=True)
         self.assertEqual(faults_of_unit(ran.stderr), [])
 
     @unittest.skipUnless(shutil.which("systemd-analyze"), "systemd is not installed")
     def test_the_unit_gives_little_away(self) -> None:
         """Its exposure is at most 2.0 of 10."""
-        words = ["systemd-analyze", "security", "--offline=true", "--threshold=20", str(PACKAGING / "bench61499.service")]
+        words = ["systemd-analyze", "security", "--offline=true", "--threshold=20", str(UNIT)]
         ran = subprocess.run(words, capture_output=True, text=True)
         self.assertEqual(ran.returncode, 0, ran.stdout + ran.stderr)
-        self.assertIn("\nMemoryMax=", (PACKAGING / "bench61499.service").read_text())
+        self.assertIn("\nMemoryMax=", UNIT.read_text())
 
 
 if __name__ == "__main__":
