@@ -1,4 +1,5 @@
 """The graph of crates, for the tools of this folder."""
+import functools
 from pathlib import Path
 
 
@@ -14,13 +15,9 @@ def read(file):
 
 def all_below(graph):
     """Each crate with all crates below it, lowest first."""
-    below = {}
 
-    def find(crate):
-        if crate not in below:
-            below[crate] = set().union(*[find(it) | {it} for it in graph[crate]])
-        return below[crate]
+    @functools.cache
+    def below(crate):
+        return set().union(*[below(it) | {it} for it in graph[crate]])
 
-    for crate in graph:
-        find(crate)
-    return dict(sorted(below.items(), key=lambda it: len(it[1])))
+    return {it: below(it) for it in sorted(graph, key=lambda it: len(below(it)))}

@@ -1,5 +1,6 @@
 """What the last whole run of the gate took, from its file in docs/gate, for the tools of this folder and the tables of docs/GATE.md."""
 import csv
+import functools
 import glob
 import os
 import re
@@ -61,20 +62,18 @@ def crates():
 
 def longest_chain():
     """The parts that wait for each other the longest, by the graph of crates.txt: each is a part and a crate."""
-    took, best = {}, {}
+    took, graph = {}, crate_graph.read(f"{TOP}/crates.txt")
     for it in last_run():
         if it["edit"] != WITHOUT:
             key = it["part"], it["crate"]
             took[key] = max(took.get(key, 0), int(it["to"]) - int(it["from"]))
-    graph = crate_graph.read(f"{TOP}/crates.txt")
 
+    @functools.cache
     def longest(key):
-        if key not in best:
-            part, crate = key
-            waits = [("proof", crate)] if part != "proof" else [("proof", it) for it in graph.get(crate, [])]
-            before, chain = max((longest(it) for it in waits), default=(0, []))
-            best[key] = (before + took[key], [*chain, key]) if key in took else (before, chain)
-        return best[key]
+        part, crate = key
+        waits = [("proof", crate)] if part != "proof" else [("proof", it) for it in graph.get(crate, [])]
+        before, chain = max((longest(it) for it in waits), default=(0, []))
+        return (before + took[key], [*chain, key]) if key in took else (before, chain)
 
     return max(longest(it) for it in took)[1]
 
