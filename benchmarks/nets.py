@@ -87,7 +87,7 @@ def plant(groups):
     held = " ".join(f"RESOURCE R{i} : EMBEDDED END_RESOURCE" for i in range(RESOURCES))
     mapped = " ".join(f"A.{it} ON D.R{at % RESOURCES};" for at, it in enumerate(outer))
     system = (
-        f"SYSTEM P APPLICATION A SUBAPPS {' '.join(f'{it}:G;' for it in outer)} END_SUBAPPS {' '.join(row(outer, SORTS, has_ports=False))} END_APPLICATION "
+        f"SYSTEM P APPLICATION A SUBAPPS {' '.join(f'{it}:G;' for it in outer)} END_SUBAPPS {' '.join(map(str.strip, row(outer, SORTS, has_ports=False)))} END_APPLICATION "
         f"DEVICE D : CONTROLLER {held} END_DEVICE MAPPINGS {mapped} END_MAPPINGS END_SYSTEM"
     )
     return [("B", BLOCK), ("G", subapplication("G", [(f"F{i}", "B") for i in range(3)], [])), ("P", system)]
