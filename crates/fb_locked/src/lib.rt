@@ -39,7 +39,7 @@ pub mod jobs {
 pub mod bench {
     pub use fb_bench::{
         Answered, Asked, Bench, Call, CheckpointRefused, Committed, Delivered, Desk,
-        DeskCheckpointError, DeskError, GivenBack, Identity, Limits, MOST_CALLS, Reading, Reply,
-        Request, Showing, Start, Taken, TextChange, Wanted,
+        DeskCheckpointError, DeskError, GivenBack, Identity, Limits, MOST_CALLS, Reading, Record,
+        Reply, Request, Showing, Start, Taken, TextChange, Wanted,
     };
 }

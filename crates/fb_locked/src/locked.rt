@@ -26,8 +26,8 @@ pub enum SharedRefused {
 }
 
 /// What is under the lock: a workbench, for how many callers seats were made, and the stop mark. The book of a caller is the
-/// number of its calls, those before the start of the history included. Records from before a roll stay in `past` until
-/// they are taken away.
+/// number of its calls, those before the start of the history included. Records from before a roll stay in `past` until they are
+/// dropped, some at each later call.
 #[derive(Drop)]
 pub struct Locked {
     pub(crate) alloc: Global,

@@ -1,5 +1,5 @@
 //! A workbench under a lock whose history begins again once it is full, and keys that are out since a take.
-ghost use Rattle.std.specs.Prelude.{◌≡◌, ◌↔◌, ◌≤◌, IsTrue, OnOk, OnErr};
+ghost use Rattle.std.specs.Prelude.{◌≡◌, ◌↔◌, ◌≤◌, ◌-◌, IsTrue, OnOk, OnErr, length, take};
 ghost use Rattle.fb_bench.specs.{History.Checkpoints.{checking, ChecksAs}, History.Limits.{Bounds}, History.BenchView.{IsOrigin}};
 ghost use Rattle.fb_locked.specs.Rolling.{locked_rolled, takes, takes_at, IsOutSince, IsRollUnseen, IsTakenAfter, MakesRoom, MayReturn, Returns};
 ghost use Rattle.fb_locked.specs.Seats.{LockedView};
@@ -25,23 +25,40 @@ impl Locked {
         Ok(before)
     }
 
-    /// The records from before the last roll, for whoever drops them once the lock is free.
-    pub fn take_past(&mut self) -> Vec<Arc<Record>>
+    /// Drops two of the records from before the last roll, if there are any. A hold of the lock records one call, so all of them are gone before the
+    /// history is full again.
+    fn drop_past(&mut self)
+        ensures { self.new ≡ self.old }
+    {
+        drop_two(&mut self.past);
+        if self.past.is_empty() {
+            self.past = Vec::new(self.alloc);
+        }
+    }
+
+    /// The records from before the last roll, so that they can be dropped once the lock is free.
+    fn take_past(&mut self) -> Vec<Arc<Record>>
         ensures { self.new ≡ self.old }
     {
         let none = Vec::new(self.alloc);
         mem::replace(&mut self.past, none)
     }
 
-    /// Rolls if the history is full or due to roll, and only then.
-    pub fn make_room(&mut self, limits: Limits, is_due: bool) -> Result<(), CheckpointRefused>
+    /// Rolls if the history is full or due to roll, and only then. It gives the records that the roll before has left: some, if it is due before it is full.
+    pub fn make_room(
+        &mut self,
+        limits: Limits,
+        is_due: bool,
+    ) -> Result<Vec<Arc<Record>>, CheckpointRefused>
         ensures { MakesRoom limits is_due self.old result self.new }
     {
+        self.drop_past();
         if !is_due && !self.bench.is_full() {
-            return Ok(());
+            return Ok(Vec::new(self.alloc));
         }
+        let past = self.take_past();
         match self.roll(limits) {
-            Ok(_before) => Ok(()),
+            Ok(_before) => Ok(past),
             Err(refused) => Err(refused),
         }
     }
@@ -100,6 +117,14 @@ impl Locked {
             Err(refused) => Err(refused),
         }
     }
+}
+
+/// Drops the last two records, or all if there are fewer.
+fn drop_two(past: &mut Vec<Arc<Record>>)
+    ensures { past.new.items ≡ take (length past.old.items - 2) past.old.items }
+{
+    drop(past.pop());
+    drop(past.pop());
 }
 
 /// Whether the record hands the key out.

@@ -1,7 +1,8 @@
 //! When the history of a shared workbench begins again.
 use fb_locked::Locked;
-use fb_locked::bench::{Limits, Request};
+use fb_locked::bench::{Limits, Record, Request};
 use fb_locked::library::Change;
+use std::sync::Arc;
 use std::sync::atomic::{AtomicU64, Ordering};
 
 /// The limits with which a history begins again, and how many bytes of texts commits may put until then. Beside them are how many they have put since the start,
@@ -24,15 +25,17 @@ impl Rolling {
         }
     }
 
-    /// Lets the history begin again if it is full, or if its texts take more bytes than they may. Without memory for that it stays as it is.
-    pub(crate) fn make_room(&self, state: &mut Locked) {
+    /// Lets the history begin again if it is full, or if its texts take more bytes than they may, and gives the records that the last time has left. Without
+    /// memory for that it stays as it is.
+    pub(crate) fn make_room(&self, state: &mut Locked) -> Option<Vec<Arc<Record>>> {
         let is_due = self.most_text < self.text.load(Ordering::SeqCst);
-        let _made = state.make_room(self.limits, is_due);
+        let past = state.make_room(self.limits, is_due).ok();
         let before = state.bench().before();
         if self.last() < before {
             self.before.store(before, Ordering::SeqCst);
             self.text.store(0, Ordering::SeqCst);
         }
+        past
     }
 
     /// How many calls came before the start.

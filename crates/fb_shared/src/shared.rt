@@ -60,19 +60,20 @@ pub(crate) struct Hold<'a> {
     shared: &'a Shared,
     // the number of the last event when it began
     last_event: u64,
+    // records that a roll has left
+    past: Option<Vec<Arc<Record>>>,
 }
 
 impl Hold<'_> {
-    /// Lets the lock go, and wakes the workers that wait, if there is something for them, and those who watch, if its call is an event. Records from before a
-    /// roll are dropped after that.
+    /// Lets the lock go, and wakes the workers that wait, if there is something for them, and those who watch, if its call is an event. What a roll has left is
+    /// dropped after that.
     pub(crate) fn end(self) {
         let Self {
             state,
             shared,
             last_event,
+            past,
         } = self;
-        let mut state = state;
-        let past = state.take_past();
         if state.calls_workers() {
             shared.changed.notify_all();
         } else {
@@ -94,9 +95,11 @@ impl Hold<'_> {
             state,
             shared,
             last_event: _,
+            past,
         } = self;
         shared.count_rest();
         drop(shared.changed.wait(rt, state));
+        drop(past);
     }
 }
 
@@ -186,7 +189,7 @@ impl Shared {
     pub(crate) fn hold<R: Wait>(&self, rt: &R) -> Hold<'_> {
         let mut hold = self.enter(rt);
         if let Some(rolling) = &self.rolls {
-            rolling.make_room(&mut hold.state);
+            hold.past = rolling.make_room(&mut hold.state);
         }
         hold
     }
@@ -199,6 +202,7 @@ impl Shared {
             state,
             shared: self,
             last_event,
+            past: None,
         }
     }
 
