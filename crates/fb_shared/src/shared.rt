@@ -1,11 +1,11 @@
 //! The workbench that threads share, under its lock.
-ghost use Rattle.std.specs.Prelude.{◌≡◌, ◌≤◌, None, IfErr, IfOk, IsTrue, OnOk, false, true};
-ghost use Rattle.fb_locked.specs.History.BenchView.{BenchView, IsOrigin, IsReplay, all_turns, last_number};
+ghost use Rattle.std.specs.Prelude.{◌≡◌, ◌↔◌, None, IfErr, IfOk, IsTrue, OnOk, false, true};
+ghost use Rattle.fb_locked.specs.History.BenchView.{BenchView, IsOrigin, IsReplay};
 ghost use Rattle.fb_locked.specs.{History.Machine.{ToCommit, ToTake, ToDeliver, ToGiveBack, ToAsk}, Bench.Records.{listed}, Bench.Requests.{call_for, job_of}};
-ghost use Rattle.fb_locked.specs.{Calls.{Answers, AnswersInto}, Closing.{IsCloseOf, IsFaultOf, IsLeast}, Resuming.{is_left_out, IsResumeFault}};
-ghost use Rattle.fb_locked.specs.{Ends.{calls_workers}, Reads.{ReadsAt}, Rolling.{MayReturn}, Seats.{AreFirstSeats, AreSeatsAt}};
+ghost use Rattle.fb_locked.specs.{Book.{SeatFits}, Calls.{Answers, AnswersInto, Performs, PerformsInto}, Closing.{IsCloseOf, IsFaultOf, IsLeast}, Resuming.{is_left_out, IsResumeFault}};
+ghost use Rattle.fb_locked.specs.{Ends.{calls_workers}, Reads.{Reads, ReadsAt}, Rolling.{MayReturn, Returns}, Seats.{AreFirstSeats, AreSeatsAt, LockedView}};
 ghost use Rattle.fb_locked.specs.History.declared.reading.Reading.TheVariants.{Events};
-ghost use Rattle.fb_shared.specs.Seated.{unnamed};
+ghost use Rattle.fb_shared.specs.{Seated.{unnamed}, UnderLock.{IsReplayed, UnderLock}};
 
 use crate::rolling::Rolling;
 use fb_locked::bench::{Answered, Bench, Identity, Limits, MOST_CALLS, Reading, Request, Showing};
@@ -19,19 +19,20 @@ use std::sync::{Condvar, CondvarTimeouts, Mutex, MutexGuard, Wait};
 use std::thread;
 use std::time::{Clock, Duration};
 
-/// How many milliseconds a watch gathers further events once there is one, so that not each of many commits wakes all who watch.
-const GATHERING: u64 = 5;
+/// How many milliseconds further events are gathered once there is one, so that not each of many commits wakes all who watch.
+const GATHERING: u64 = 8;
 
 /// How many milliseconds a watch waits at most if the workbench is about to be closed.
 const CLOSING: u64 = 100;
 
 /// A workbench that threads share. Each call holds the lock once. Beside the lock are the number of callers for whom seats were made, when the history begins
-/// again, if it does, and the identity of the workbench, 0 if it has none. `changed` wakes workers, and `events` those who watch,
-/// who wait no longer if the workbench `is_closing`. `rests` counts how often there was nothing to take.
+/// again, if it does, and the identity of the workbench, 0 if it has none. `changed` wakes workers, `news` the one that wakes watchers, and `events` those who
+/// watch, who wait no longer if the workbench `is_closing`. `rests` counts how often there was nothing to take.
 pub struct Shared {
     pub(crate) state: Mutex<Locked>,
     pub(crate) callers: u32,
     pub(crate) changed: Condvar,
+    pub(crate) news: Condvar,
     pub(crate) events: Condvar,
     pub(crate) is_closing: AtomicBool,
     pub(crate) rests: AtomicU64,
@@ -45,6 +46,7 @@ impl Drop for Shared {
             state: _,
             callers: _,
             changed: _,
+            news: _,
             events: _,
             is_closing: _,
             rests: _,
@@ -65,8 +67,8 @@ pub(crate) struct Hold<'a> {
 }
 
 impl Hold<'_> {
-    /// Lets the lock go, and wakes the workers that wait, if there is something for them, and those who watch, if its call is an event. What a roll has left is
-    /// dropped after that.
+    /// Lets the lock go, and wakes the workers that wait, if there is something for them, and the one that wakes watchers, if its call is an event. What a roll has
+    /// left is dropped after that.
     pub(crate) fn end(self) {
         let Self {
             state,
@@ -82,7 +84,7 @@ impl Hold<'_> {
         let has_news = last_event < state.bench().last_event();
         drop(state);
         if has_news {
-            shared.events.notify_all();
+            shared.news.notify_one();
         }
         drop(past);
     }
@@ -136,6 +138,7 @@ impl Shared {
             state: Mutex::new(locked),
             callers,
             changed: Condvar::new(),
+            news: Condvar::new(),
             events: Condvar::new(),
             is_closing: AtomicBool::new(false),
             rests: AtomicU64::new(0),
@@ -186,11 +189,14 @@ impl Shared {
     }
 
     /// Takes the lock for one call. If the history has to begin again, it does so first; without memory for that it stays as it is.
-    pub(crate) fn hold<R: Wait>(&self, rt: &R) -> Hold<'_> {
+    pub(crate) fn hold<R: Wait>(&self, rt: &R) -> Hold<'_>
+        ensures { IsReplayed result.state.value }
+    {
         let mut hold = self.enter(rt);
         if let Some(rolling) = &self.rolls {
             hold.past = rolling.make_room(&mut hold.state);
         }
+        show_replayed(hold.state.bench());
         hold
     }
 
@@ -212,11 +218,8 @@ impl Shared {
             × (result ≡ bench.origin.before) }
     {
         let state = self.state.lock(rt);
-        let bench = state.bench();
-        // For the proof: each recorded answer is the machine's, from a start that a workbench may have.
-        bench.start();
-        bench.len();
-        bench.before()
+        show_replayed(state.bench());
+        state.bench().before()
     }
 
     /// How many calls came before the last time that the history began again by itself, or 0. It takes no lock.
@@ -229,15 +232,10 @@ impl Shared {
 
     /// Whether the history is not one that the seat has seen.
     pub fn is_behind<R: Wait>(&self, rt: &R, seat: &Seat) -> bool
-        ensures { IsTrue result → (bench : BenchView) × IsOrigin bench.origin × IsReplay bench
-            × ((all_turns bench seat.now.caller ≡ seat.now.turns)
-            × (seat.now.seen ≤ last_number bench) → ⊥) }
+        ensures { UnderLock (λ locked. IsTrue result ↔ (SeatFits locked seat.now → ⊥)) }
     {
         let state = self.state.lock(rt);
-        let bench = state.bench();
-        // As above.
-        bench.start();
-        bench.len();
+        show_replayed(state.bench());
         !state.fits(seat)
     }
 
@@ -248,8 +246,11 @@ impl Shared {
         seat: &mut Seat,
         changes: &[Change],
     ) -> Result<Receipt, SharedRefused>
-        ensures { Answers seat.old (ToCommit (listed changes.now))
+        ensures answers { Answers seat.old (ToCommit (listed changes.now))
             (λ receipt. receipt) result seat.new }
+        ensures performs { UnderLock (λ locked. (after : LockedView)
+            × Performs locked seat.old (ToCommit (listed changes.now))
+            (λ receipt. receipt) result after seat.new) }
     {
         let mut hold = self.hold(rt);
         let answer = hold.state.commit(seat, changes);
@@ -264,6 +265,8 @@ impl Shared {
         seat: &mut Seat,
     ) -> Result<(Receipt, Option<Job>), SharedRefused>
         ensures answers { Answers seat.old ToTake (λ made. made.0) result seat.new }
+        ensures performs { UnderLock (λ locked. (after : LockedView)
+            × Performs locked seat.old ToTake (λ made. made.0) result after seat.new) }
         ensures job { IfOk result (λ made. made.1 ≡ job_of made.0.entry.reply) }
     {
         let mut hold = self.hold(rt);
@@ -279,7 +282,9 @@ impl Shared {
         seat: &mut Seat,
         finished: &Finished,
     ) -> Result<Receipt, SharedRefused>
-        ensures { Answers seat.old (ToDeliver finished.now) (λ receipt. receipt) result seat.new }
+        ensures answers { Answers seat.old (ToDeliver finished.now) (λ receipt. receipt) result seat.new }
+        ensures performs { UnderLock (λ locked. (after : LockedView)
+            × Performs locked seat.old (ToDeliver finished.now) (λ receipt. receipt) result after seat.new) }
     {
         let mut hold = self.hold(rt);
         let answer = hold.state.deliver(seat, finished);
@@ -294,7 +299,9 @@ impl Shared {
         seat: &mut Seat,
         key: Key,
     ) -> Result<Receipt, SharedRefused>
-        ensures { Answers seat.old (ToGiveBack key) (λ receipt. receipt) result seat.new }
+        ensures answers { Answers seat.old (ToGiveBack key) (λ receipt. receipt) result seat.new }
+        ensures performs { UnderLock (λ locked. (after : LockedView)
+            × Performs locked seat.old (ToGiveBack key) (λ receipt. receipt) result after seat.new) }
     {
         let mut hold = self.hold(rt);
         let answer = hold.state.give_back(seat, key);
@@ -304,7 +311,9 @@ impl Shared {
 
     /// What is known of a key.
     pub fn ask<R: Wait>(&self, rt: &R, seat: &mut Seat, key: Key) -> Result<Receipt, SharedRefused>
-        ensures { Answers seat.old (ToAsk key) (λ receipt. receipt) result seat.new }
+        ensures answers { Answers seat.old (ToAsk key) (λ receipt. receipt) result seat.new }
+        ensures performs { UnderLock (λ locked. (after : LockedView)
+            × Performs locked seat.old (ToAsk key) (λ receipt. receipt) result after seat.new) }
     {
         let mut hold = self.hold(rt);
         let answer = hold.state.ask(seat, key);
@@ -320,8 +329,11 @@ impl Shared {
         receipts: &mut Vec<Receipt>,
         request: &Request<'_>,
     ) -> Result<Answered, SharedRefused>
-        ensures { AnswersInto seat.old (call_for request.now) result
+        ensures answers { AnswersInto seat.old (call_for request.now) result
             receipts.old.items seat.new receipts.new.items }
+        ensures performs { UnderLock (λ locked. (after : LockedView)
+            × PerformsInto locked seat.old (call_for request.now) result
+            receipts.old.items after seat.new receipts.new.items) }
     {
         let mut hold = self.hold(rt);
         let answer = hold.state.perform_into(seat, receipts, request);
@@ -341,7 +353,10 @@ impl Shared {
         key: Key,
         since: u64,
     ) -> Result<(), SharedRefused>
-        ensures { MayReturn seat.old key result receipts.old.items seat.new receipts.new.items }
+        ensures may { MayReturn seat.old key result receipts.old.items seat.new receipts.new.items }
+        ensures returns { UnderLock (λ locked. (after : LockedView)
+            × Returns since locked seat.old key result
+            receipts.old.items after seat.new receipts.new.items) }
     {
         let mut hold = self.hold(rt);
         let answer = hold.state.return_held(seat, receipts, key, since);
@@ -356,9 +371,42 @@ impl Shared {
         seat: &mut Seat,
         reading: &Reading,
     ) -> Result<Option<Showing>, AllocError>
-        ensures { ReadsAt self.now.workbench seat.old reading.now result seat.new }
+        ensures at { ReadsAt self.now.workbench seat.old reading.now result seat.new }
+        ensures reads { UnderLock (λ locked. Reads locked self.now.workbench seat.old reading.now
+            result seat.new) }
     {
         let state = self.state.lock(rt);
+        self.read_in(state, seat, reading)
+    }
+
+    /// Reads the events after a call. If there are none yet, it waits for them, but not for longer than this. `tell_watchers` must run.
+    pub fn watch<R: Wait + Clock>(
+        &self,
+        rt: &R,
+        seat: &mut Seat,
+        after: u64,
+        wait: Duration,
+    ) -> Result<Option<Showing>, AllocError>
+        ensures at { ReadsAt self.now.workbench seat.old (Events after) result seat.new }
+        ensures reads { UnderLock (λ locked. Reads locked self.now.workbench seat.old (Events after)
+            result seat.new) }
+    {
+        let state = self.await_news(rt, after, wait);
+        self.read_in(state, seat, &Reading::Events(after))
+    }
+
+    /// Reads what is under the lock, and lets it go.
+    fn read_in(
+        &self,
+        state: MutexGuard<'_, Locked>,
+        seat: &mut Seat,
+        reading: &Reading,
+    ) -> Result<Option<Showing>, AllocError>
+        ensures at { ReadsAt self.now.workbench seat.old reading.now result seat.new }
+        ensures reads { UnderLock (λ locked. Reads locked self.now.workbench seat.old reading.now
+            result seat.new) }
+    {
+        show_replayed(state.bench());
         let made = state.snapshot(seat, self.workbench, reading);
         drop(state);
         match made? {
@@ -367,37 +415,53 @@ impl Shared {
         }
     }
 
-    /// Reads the events after a call. If there are none yet, it waits for them, but not for longer than this.
-    pub fn watch<R: Wait + Clock>(
+    /// Takes the lock once there is an event after this call, but not later than this. If there is one at once, and a read can show more, it gathers further ones
+    /// for a short time.
+    fn await_news<R: Wait + Clock>(
         &self,
         rt: &R,
-        seat: &mut Seat,
         after: u64,
         wait: Duration,
-    ) -> Result<Option<Showing>, AllocError>
-        ensures { ReadsAt self.now.workbench seat.old (Events after) result seat.new }
-    {
-        self.await_news(rt, after, wait);
-        self.read(rt, seat, &Reading::Events(after))
-    }
-
-    /// Waits for an event after this call, but not for longer than this. If a read can show more than there are, it gathers further ones for a short time.
-    fn await_news<R: Wait + Clock>(&self, rt: &R, after: u64, wait: Duration) {
+    ) -> MutexGuard<'_, Locked> {
         let state = self.state.lock(rt);
-        let closing = self.is_closing.load(Ordering::SeqCst);
+        let behind = state.bench().last_event().saturating_sub(after);
+        if 0 < behind && behind < MOST_CALLS && !wait.is_zero() {
+            drop(state);
+            thread::sleep(rt, Duration::from_millis(GATHERING));
+            return self.state.lock(rt);
+        }
+        let closing = self.is_closing();
         let most = if closing {
             wait.min(Duration::from_millis(CLOSING))
         } else {
             wait
         };
         let (state, _timeout) = self.events.wait_timeout_while(rt, state, most, |locked| {
-            !locked.bench().has_news(after) && self.is_closing.load(Ordering::SeqCst) == closing
+            !locked.bench().has_news(after) && self.is_closing() == closing
         });
-        let behind = state.bench().last_event().saturating_sub(after);
-        drop(state);
-        if 0 < behind && behind < MOST_CALLS && !wait.is_zero() {
+        state
+    }
+
+    /// Wakes those who watch a short time after an event, until watches are ended. It runs in a thread of its own, so that no call has to wake them.
+    pub fn tell_watchers<R: Wait + Clock>(&self, rt: &R) {
+        let mut told = 0;
+        for _ in rt.forever() {
+            told = self.await_event(rt, told);
+            if self.is_closing() {
+                return;
+            }
             thread::sleep(rt, Duration::from_millis(GATHERING));
+            self.events.notify_all();
         }
+    }
+
+    /// The number of the last event, once there is one after this or watches are ended.
+    fn await_event<R: Wait>(&self, rt: &R, told: u64) -> u64 {
+        let state = self.state.lock(rt);
+        let state = self.news.wait_while(rt, state, |locked| {
+            locked.bench().last_event() <= told && !self.is_closing()
+        });
+        state.bench().last_event()
     }
 
     /// From now on no watch waits long, so that the sessions of peers that have gone end.
@@ -405,6 +469,7 @@ impl Shared {
         let state = self.state.lock(rt);
         self.is_closing.store(true, Ordering::SeqCst);
         drop(state);
+        self.news.notify_all();
         self.events.notify_all();
     }
 
@@ -448,6 +513,7 @@ impl Shared {
             state,
             callers,
             changed,
+            news,
             events,
             is_closing,
             rests,
@@ -468,6 +534,7 @@ impl Shared {
                     state: Mutex::new(owner),
                     callers,
                     changed,
+                    news,
                     events,
                     is_closing,
                     rests,
@@ -478,4 +545,12 @@ impl Shared {
             }),
         }
     }
+}
+
+/// For proofs: each recorded answer of a workbench is the machine's, from a start that a workbench may have.
+fn show_replayed(bench: &Bench)
+    ensures { IsOrigin bench.now.origin × IsReplay bench.now }
+{
+    bench.start();
+    bench.len();
 }

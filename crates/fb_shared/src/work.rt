@@ -1,6 +1,7 @@
 //! Workers, which take jobs, run them and deliver the results.
-ghost use Rattle.std.specs.Prelude.{◌≡◌, ◌*◌, IfOk, IfSome, Some};
+ghost use Rattle.std.specs.Prelude.{◌≡◌, ◌⊎◌, ◌*◌, IfOk, IfSome, Some};
 ghost use Rattle.fb_locked.specs.{Ends.{NamesSeat, LookNames}, Runs.{AddsLook, Works, Empty, Holds}, declared.look.WorkEnd.TheVariants.{TurnsOver}};
+ghost use Rattle.fb_shared.specs.UnderLock.{HasLooked, IsLookOf, MayLook};
 
 use crate::shared::Shared;
 use fb_locked::jobs::{Finished, Job};
@@ -42,6 +43,7 @@ pub fn work_on<R: Wait, G: Gate>(
         (Some result) }
     ensures names { NamesSeat seat.new result }
     ensures idle { turns ≡ 0 → result ≡ TurnsOver }
+    ensures over { result ≡ TurnsOver → (turns ≡ 0) ⊎ MayLook seat.old }
 {
     // For the proof: the label names the loop there, as in `invariant-looks`.
     'looks: for _ in 0..turns {
@@ -53,6 +55,7 @@ pub fn work_on<R: Wait, G: Gate>(
 }
 
 /// One look for a job and, if there is one, its run.
+#[tactic(auto, using(crate::proofs::Holds::ended_looked, crate::proofs::Holds::has_looked))]
 fn work_turn<R: Wait, G: Gate>(
     rt: &R,
     alloc: Global,
@@ -63,6 +66,7 @@ fn work_turn<R: Wait, G: Gate>(
 ) -> Option<WorkEnd>
     ensures works { Works Empty 2 seat.old receipts.old.items receipts.new.items seat.new result }
     ensures names { IfSome result (NamesSeat seat.new) }
+    ensures looked { HasLooked seat.old result }
 {
     match take_job(rt, shared, seat, receipts) {
         Look::Ended(end) => Some(end),
@@ -72,9 +76,11 @@ fn work_turn<R: Wait, G: Gate>(
 }
 
 /// Takes a job under one hold of the lock; if there is none, it waits for a change.
+#[tactic(auto, using(crate::proofs::Holds::looked))]
 fn take_job<R: Wait>(rt: &R, shared: &Shared, seat: &mut Seat, receipts: &mut Vec<Receipt>) -> Look
     ensures adds { AddsLook result seat.old receipts.old.items receipts.new.items seat.new }
     ensures names { LookNames seat.new result }
+    ensures looked { IsLookOf seat.old result }
 {
     let mut hold = shared.hold(rt);
     let look = hold.state.look(seat, receipts);

@@ -26,4 +26,6 @@ mod waiting;
 #[cfg(test)]
 mod waking;
 #[cfg(test)]
+mod watching;
+#[cfg(test)]
 mod workers;
