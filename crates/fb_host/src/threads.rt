@@ -1,4 +1,4 @@
-//! The threads of a host: admission, sessions, workers, the keeper of keys, and the one that prints.
+//! The threads of a host: admission, sessions, workers, the keeper of keys, and those that print and wake watchers.
 ghost use Rattle.std.specs.Prelude.{◌≡◌, ◌≢◌, IsTrue};
 ghost use Rattle.fb_locked.specs.declared.look.WorkEnd.TheVariants as ends;
 ghost use Rattle.fb_host.specs.HostSessions.{LeadsTo};
@@ -150,12 +150,14 @@ pub(crate) fn run_threads<R: Threads + Wait + Clock + Sync, E: Write + Send>(
     } = seats;
     thread::scope(thread::scope_env(), rt, |scope| {
         let printer = start_printer(scope, rt, host, errors);
+        let waker = start_waker(scope, rt, host);
         let keeper = start_keeper(scope, rt, alloc, host, keeper);
         let workers = start_workers(scope, rt, alloc, host, workers);
         let sessions = start_sessions(scope, rt, alloc, host, sessions);
         let admission = start_admission(scope, rt, alloc, host, secret);
-        let has_threads = printer.is_some() && keeper.is_some() && admission.is_whole;
-        let is_whole = has_threads && workers.is_whole && sessions.is_whole;
+        let has_threads = printer.is_some() && waker.is_some() && keeper.is_some();
+        let has_all = has_threads && admission.is_whole;
+        let is_whole = has_all && workers.is_whole && sessions.is_whole;
         if is_whole {
             accept_connections(rt, alloc, listener, host);
         }
@@ -165,6 +167,7 @@ pub(crate) fn run_threads<R: Threads + Wait + Clock + Sync, E: Write + Send>(
         results.add_keeper(rt, host, keeper);
         host.shared.stop(rt);
         results.add_all(rt, host, workers);
+        join_started(rt, waker);
         end_printer(rt, host, printer);
         results
     })
@@ -183,7 +186,12 @@ fn end_admission<R: Threads + Wait>(rt: &R, host: &HostState, admission: Started
 /// Waits until all lines are printed.
 fn end_printer<R: Threads + Wait>(rt: &R, host: &HostState, printer: Option<JoinHandle<()>>) {
     host.notices.close(rt);
-    if let Some(thread) = printer {
+    join_started(rt, printer);
+}
+
+/// Waits until a thread has ended, if it was started.
+fn join_started<R: Threads + Wait>(rt: &R, started: Option<JoinHandle<()>>) {
+    if let Some(thread) = started {
         thread.join(rt);
     }
 }
@@ -198,6 +206,15 @@ fn start_printer<'s, Env, R: Threads + Wait + Clock + Sync, E: Write + Send>(
     scope
         .spawn(move || print_notices(rt, &host.notices, errors))
         .ok()
+}
+
+/// Starts the thread that wakes those who watch. It ends with the watches.
+fn start_waker<'s, Env, R: Threads + Wait + Clock + Sync>(
+    scope: &Scope<'s, Env>,
+    rt: &'s R,
+    host: &'s HostState,
+) -> Option<JoinHandle<()>> {
+    scope.spawn(move || host.shared.tell_watchers(rt)).ok()
 }
 
 /// Starts the keeper of keys.
