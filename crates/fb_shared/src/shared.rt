@@ -478,12 +478,18 @@ impl Shared {
         self.is_closing.load(Ordering::SeqCst)
     }
 
-    /// How often a call, or a worker's look for a job, has left nothing to take: whatever was pending then had been taken.
+    /// How often a call, or a worker's look for a job, has left nothing to take: whatever was pending then had been taken. A worker that ends, as for lack of memory,
+    /// counts too: nobody is to wait for it.
     pub fn rests(&self) -> u64 {
         self.rests.load(Ordering::SeqCst)
     }
 
-    fn count_rest(&self) {
+    /// Counts it if there is nothing to take now.
+    pub fn look_for_rest<R: Wait>(&self, rt: &R) {
+        self.enter(rt).end();
+    }
+
+    pub(crate) fn count_rest(&self) {
         self.rests.fetch_add(1, Ordering::SeqCst);
     }
 

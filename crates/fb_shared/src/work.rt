@@ -48,6 +48,7 @@ pub fn work_on<R: Wait, G: Gate>(
     // For the proof: the label names the loop there, as in `invariant-looks`.
     'looks: for _ in 0..turns {
         if let Some(end) = work_turn(rt, alloc, shared, seat, receipts, gate) {
+            shared.count_rest();
             return end;
         }
     }
