@@ -1,7 +1,7 @@
 -- What threads of a host share and leave may cross threads.
 use denote.Param.Send.{IsSend, IsSync, sendable}
 use Rattle.std.proofs.Crossing.{crosses}
-use Rattle.fb_shared.proofs.Crossing.{receipt_send, seat_send, shared_field_sync}
+use Rattle.fb_shared.proofs.Crossing.{receipt_send, shared_field_sync}
 use Rattle.fb_serve.specs.contracts.caller_state.Held as Held
 use Rattle.fb_wire.specs.contracts.run_error.RunError as RunError
 use Rattle.fb_host.specs.contracts.leases.Lease as Lease
@@ -19,7 +19,9 @@ use Rattle.fb_host.specs.contracts.receipt_store.ReceiptStore as ReceiptStore
 use Rattle.fb_host.specs.contracts.connection.Connection as Connection
 use Rattle.fb_host.specs.contracts.connection_queue.QueueState as QueueState
 use Rattle.fb_host.specs.contracts.connection_queue.ConnectionQueue as ConnectionQueue
-use Rattle.fb_host.specs.contracts.pace.PaceState as PaceState
+use Rattle.fb_host.specs.contracts.pace.RecentCommits as RecentCommits
+use Rattle.fb_host.specs.contracts.pace.CommitTable as CommitTable
+use Rattle.fb_host.specs.contracts.pace.LastRelease as LastRelease
 use Rattle.fb_host.specs.contracts.pace.Pace as Pace
 use Rattle.fb_host.specs.contracts.hosting.HostConfig as HostConfig
 use Rattle.fb_host.specs.contracts.threads.HostState as HostState
@@ -108,14 +110,26 @@ waiting_state_send = search (waiting_state_field_send, crosses, sendable) depth 
 waiting_field_sync : IsSync (WaitingRoom.the_field).row
 waiting_field_sync = search (waiting_state_send, crosses, sendable) depth 60 fits 20000
 
-pace_state_field_send : IsSend (PaceState.the_field).row
-pace_state_field_send = search (seat_send, crosses, sendable) depth 60 fits 20000
+recent_commits_field_send : IsSend (RecentCommits.the_field).row
+recent_commits_field_send = search (crosses, sendable) depth 60 fits 20000
 
-pace_state_send : IsSend PaceState.the_row
-pace_state_send = search (pace_state_field_send, crosses, sendable) depth 60 fits 20000
+recent_commits_send : IsSend RecentCommits.the_row
+recent_commits_send = search (recent_commits_field_send, crosses, sendable) depth 60 fits 20000
+
+commit_table_field_send : IsSend (CommitTable.the_field).row
+commit_table_field_send = search (recent_commits_send, crosses, sendable) depth 60 fits 20000
+
+commit_table_send : IsSend CommitTable.the_row
+commit_table_send = search (commit_table_field_send, crosses, sendable) depth 60 fits 20000
+
+last_release_field_send : IsSend (LastRelease.the_field).row
+last_release_field_send = search (crosses, sendable) depth 60 fits 20000
+
+last_release_send : IsSend LastRelease.the_row
+last_release_send = search (last_release_field_send, crosses, sendable) depth 60 fits 20000
 
 pace_field_sync : IsSync (Pace.the_field).row
-pace_field_sync = search (pace_state_send, crosses, sendable) depth 60 fits 20000
+pace_field_sync = search (commit_table_send, last_release_send, crosses, sendable) depth 60 fits 20000
 
 config_field_sync : IsSync (HostConfig.the_field).row
 config_field_sync = search (crosses, sendable) depth 60 fits 20000

@@ -30,7 +30,7 @@ pub const FIRST_LINE_TIMEOUT: u64 = 10_000;
 pub const REPLY_TIMEOUT: u64 = 600_000;
 
 /// How many milliseconds a commit waits at most for the workers.
-pub const COMMIT_WAIT: u64 = 1_000;
+pub const COMMIT_WAIT: u64 = 600_000;
 
 /// How many milliseconds a session may keep a key that it has taken.
 pub const KEY_TIMEOUT: u64 = 60_000;
@@ -63,7 +63,7 @@ pub struct HostConfig {
 
 /// Gives each connection a free seat, if its first line proves the secret, or if no secret is set and it begins with a request, with workers beside the sessions.
 /// After `config.connections` sessions it closes, once all of them have ended. A fault of a session is printed on `errors` soon. The seats are those of
-/// the sessions, then those of the workers, the one that gives back keys which sessions keep, and the one that reads how many keys are pending.
+/// the sessions, then those of the workers, and the one that gives back keys which sessions keep.
 fn host_sessions<R: Threads + Wait + Clock + Sync, E: Write + Send>(
     rt: &R,
     alloc: Global,
@@ -76,10 +76,10 @@ fn host_sessions<R: Threads + Wait + Clock + Sync, E: Write + Send>(
     ensures all { IfOk result
         (λ served. ShowsAll served.closed.bench served.receipts.items) }
     ensures counts { IfOk result
-        (λ served. IsBookOf served.closed.counts (config.sessions + config.workers + 2)
+        (λ served. IsBookOf served.closed.counts (config.sessions + config.workers + 1)
         served.closed.bench) }
 {
-    let callers = u32::from(config.sessions) + u32::from(config.workers) + 2;
+    let callers = u32::from(config.sessions) + u32::from(config.workers) + 1;
     let (shared, mut sessions) = Shared::rolling(
         alloc,
         config.limits,
@@ -88,9 +88,15 @@ fn host_sessions<R: Threads + Wait + Clock + Sync, E: Write + Send>(
         config.workbench,
     )?;
     let mut workers = sessions.split_off(usize::from(config.sessions))?;
-    let (Some(reader), Some(keeper)) = (workers.pop(), workers.pop()) else {
+    let Some(keeper) = workers.pop() else {
         return Err(NotServed);
     };
+    let pace = Pace::new(
+        alloc,
+        callers,
+        u64::from(config.workers),
+        config.commit_wait,
+    )?;
     let seats = Seats {
         sessions,
         workers,
@@ -100,26 +106,25 @@ fn host_sessions<R: Threads + Wait + Clock + Sync, E: Write + Send>(
         shared,
         receipts: ReceiptStore::new(alloc),
         leases: Leases::new(alloc, config.key_timeout),
-        pace: Pace::new(reader, u64::from(config.workers), config.commit_wait),
+        pace,
         notices: Notices::new(alloc),
         waiting: WaitingRoom::new(alloc),
         admission: ConnectionQueue::new(alloc, ADMISSION_THREADS, u64::MAX),
         seats: ConnectionQueue::new(alloc, u64::from(config.sessions), config.connections),
         config,
     };
-    let mut results = run_threads(rt, alloc, listener, &host, secret, errors, seats);
+    let results = run_threads(rt, alloc, listener, &host, secret, errors, seats);
     let HostState {
         shared,
         receipts,
         leases: _,
-        pace,
+        pace: _,
         notices: _,
         waiting: _,
         admission: _,
         seats: _,
         config: _,
     } = host;
-    results.add_seat(pace.into_seat());
     close(rt, alloc, shared, receipts, results)
 }
 
@@ -137,7 +142,7 @@ fn host_and_close<R: Threads + Wait + Clock + Sync, S: Sink, E: Write + Send>(
     ensures all { IfOk result
         (λ served. ShowsAll served.closed.bench served.receipts.items) }
     ensures counts { IfOk result
-        (λ served. IsBookOf served.closed.counts (config.sessions + config.workers + 2)
+        (λ served. IsBookOf served.closed.counts (config.sessions + config.workers + 1)
         served.closed.bench) }
     ensures said { SaysLines (is_ok result) (S.held out.old) (S.held out.new) }
     ensures flushed { OnOk result (S.is_flushed out.new ≡ true) }
@@ -168,7 +173,7 @@ pub fn host_on<R: Threads + Wait + Clock + Sync, S: Sink, E: Write + Send>(
     ensures all { IfOk result.served
         (λ served. ShowsAll served.closed.bench served.receipts.items) }
     ensures counts { IfOk result.served
-        (λ served. IsBookOf served.closed.counts (config.sessions + config.workers + 2)
+        (λ served. IsBookOf served.closed.counts (config.sessions + config.workers + 1)
         served.closed.bench) }
     ensures said { SaysLines (is_ok result.served) (S.held out.old) (S.held out.new) }
     ensures flushed { OnOk result.served (S.is_flushed out.new ≡ true) }

@@ -22,7 +22,7 @@ pub(crate) fn keep_keys<R: Wait + Clock>(
             return state;
         };
         hold(&mut state.held, lease.held);
-        give_back_all(rt, &host.shared, &host.receipts, &mut state);
+        give_back_all(rt, &host.shared, &host.receipts, &host.pace, &mut state);
         if state.held.is_empty() {
             host.leases.remove(rt, &lease);
         } else {

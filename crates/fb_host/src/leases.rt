@@ -1,4 +1,7 @@
 //! The keys that sessions have taken, so that none stays out for long: who works for the result of a key waits for nobody who holds it.
+ghost use Rattle.std.specs.Prelude.{◌≡◌, filter};
+ghost use Rattle.fb_host.specs.Leases.{is_another, is_of_others, is_other_call, is_unsettled, with_lease};
+
 use fb_serve::Held;
 use fb_wire::jobs::Key;
 use std::alloc::Global;
@@ -11,6 +14,43 @@ pub(crate) struct Lease {
     caller: u32,
     pub(crate) held: Held,
     begun: Instant,
+}
+
+/// Adds a key after the others, if there is memory. If its caller had it already, that counts no longer. Whether it was added.
+fn put_lease(leases: &mut Vec<Lease>, lease: Lease) -> bool
+    ensures { leases.new.items ≡ with_lease lease result
+        (filter (is_another lease.caller lease.held.key) leases.old.items) }
+{
+    drop_key(leases, lease.caller, &lease.held.key);
+    leases.push(lease).is_ok()
+}
+
+/// Removes a key of a caller.
+fn drop_key(leases: &mut Vec<Lease>, caller: u32, key: &Key)
+    ensures { leases.new.items ≡ filter (is_another caller key.now) leases.old.items }
+{
+    leases.retain(|it| it.caller != caller || it.held.key != *key);
+}
+
+/// Removes a key that was settled by the call of this number.
+fn drop_settled(leases: &mut Vec<Lease>, key: Key, number: u64)
+    ensures { leases.new.items ≡ filter (is_unsettled key number) leases.old.items }
+{
+    leases.retain(|it| it.held.key != key || number < it.held.since);
+}
+
+/// Removes all keys of a caller.
+fn drop_caller(leases: &mut Vec<Lease>, caller: u32)
+    ensures { leases.new.items ≡ filter (is_of_others caller) leases.old.items }
+{
+    leases.retain(|it| it.caller != caller);
+}
+
+/// Removes what a caller took by the call of this number.
+fn drop_taken(leases: &mut Vec<Lease>, caller: u32, since: u64)
+    ensures { leases.new.items ≡ filter (is_other_call caller since) leases.old.items }
+{
+    leases.retain(|it| it.caller != caller || it.held.since != since);
 }
 
 /// The keys that are out, in the order in which they were taken, and whether the host closes.
@@ -56,41 +96,32 @@ impl Leases {
         let Ok(begun) = Instant::now(rt) else {
             return;
         };
-        let mut state = self.state.lock(rt);
-        state
-            .leases
-            .retain(|it| it.caller != caller || it.held.key != held.key);
         let lease = Lease {
             caller,
             held,
             begun,
         };
-        let _ = state.leases.push(lease);
+        let _added = put_lease(&mut self.state.lock(rt).leases, lease);
         self.changed.notify_one();
     }
 
     /// Notes that a key was settled by the call of this number.
     pub(crate) fn settle<R: Wait>(&self, rt: &R, key: Key, number: u64) {
-        let mut state = self.state.lock(rt);
-        state
-            .leases
-            .retain(|it| it.held.key != key || number < it.held.since);
+        drop_settled(&mut self.state.lock(rt).leases, key, number);
     }
 
     /// Notes that a session has given back all that it has taken.
     pub(crate) fn end<R: Wait>(&self, rt: &R, caller: u32) {
-        self.state.lock(rt).leases.retain(|it| it.caller != caller);
+        drop_caller(&mut self.state.lock(rt).leases, caller);
     }
 
     /// Notes that a key that was out for too long is given back.
     pub(crate) fn remove<R: Wait>(&self, rt: &R, lease: &Lease) {
-        let mut state = self.state.lock(rt);
-        state.leases.retain(|it| it.caller != lease.caller || it.held.since != lease.held.since);
-    }
-
-    /// How many keys sessions hold.
-    pub(crate) fn count<R: Wait>(&self, rt: &R) -> u64 {
-        self.state.lock(rt).leases.len() as u64
+        drop_taken(
+            &mut self.state.lock(rt).leases,
+            lease.caller,
+            lease.held.since,
+        );
     }
 
     /// Waits for a key that has been out for too long. None if the host closes.

@@ -1,163 +1,194 @@
-//! The pace of sessions: one that commits faster than the workers settle keys waits for them, so that the others get what they ask for.
-ghost use Rattle.std.specs.Prelude.{◌≡◌, ◌+◌, ◌-◌, ◌<◌, ◌^◌, ◌↔◌, IsTrue};
-ghost use Rattle.fb_host.specs.Pace.{AreFew, MayCommit};
+//! The pace of sessions: a seat that commits faster than the workers settle keys waits for them, and a key that a session lets go is the workers' first.
+ghost use Rattle.std.specs.Prelude.{◌≡◌, ◌≢◌, ◌+◌, ◌-◌, ◌<◌, ◌^◌, ◌==◌, ◌↔◌, IfOk, IsTrue, Some, if◌then◌else◌, replicate, slice_get};
+ghost use Rattle.fb_host.specs.Pace.{IsCounted, MayCommit, no_commits, with_one_more};
 
-use crate::leases::Leases;
-use fb_shared::bench::{Reading, Showing};
-use fb_shared::{Seat, Shared};
-use std::sync::{Mutex, Wait};
+use fb_shared::Shared;
+use std::alloc::{AllocError, Global};
+use std::sync::{Mutex, MutexGuard, Wait};
 use std::thread;
 use std::time::{Clock, Duration, Instant};
 
-/// How many milliseconds pass from one look at the pending keys to the next.
+/// How many milliseconds pass from one look at the rests of workers to the next.
 const LOOK: u64 = 1;
 
-/// Whether the keys that are pending are at most those that sessions hold and workers can have at once.
-fn are_few(pending: u64, held: u64, workers: u64) -> bool
-    ensures { IsTrue result ↔ AreFew pending held workers }
-{
-    pending.saturating_sub(held) <= workers
-}
+/// For how many milliseconds a call waits at most if the host closes.
+const CLOSING: u64 = 100;
 
-/// How many commits a session makes at most between two moments with few pending keys.
+/// How many commits a seat makes at most between two rests.
 const AHEAD: u64 = 8;
 
-/// The commits of a session since a moment with few pending keys: how many such moments were counted then, and how many commits it has made since.
+/// The commits of a seat since a rest: how many rests were counted then, and how many commits it has made since.
 #[derive(Clone, Copy)]
-pub(crate) struct RecentCommits {
-    moments: u64,
+struct RecentCommits {
+    rests: u64,
     count: u64,
 }
 
 impl RecentCommits {
-    pub(crate) const NONE: RecentCommits = RecentCommits {
-        moments: 0,
-        count: 0,
-    };
+    const NONE: RecentCommits = RecentCommits { rests: 0, count: 0 };
 
-    /// Whether the session may commit, now that this number of moments was counted.
-    fn may_commit(self, moments: u64) -> bool
-        ensures { IsTrue result ↔ MayCommit self.moments self.count moments }
+    /// Whether the seat may commit, now that this number of rests was counted.
+    fn may_commit(self, rests: u64) -> bool
+        ensures { IsTrue result ↔ MayCommit self rests }
     {
-        self.moments != moments || self.count < AHEAD
+        self.rests != rests || self.count < AHEAD
     }
 
     /// With one more commit.
-    fn then(self, moments: u64) -> RecentCommits
-        ensures moments { result.moments ≡ moments }
-        ensures further { self.moments ≡ moments → self.count < 2 ^ 64 - 1
-            → result.count ≡ self.count + 1 }
+    fn then(self, rests: u64) -> RecentCommits
+        ensures { self.count < 2 ^ 64 - 1 → result ≡ with_one_more self rests }
     {
-        let before = if self.moments == moments {
-            self.count
-        } else {
-            0
-        };
+        let before = if self.rests == rests { self.count } else { 0 };
         RecentCommits {
-            moments,
+            rests,
             count: before.saturating_add(1),
         }
     }
 }
 
-/// A seat for looks at how many keys are pending, and how many moments were counted at which a look found few.
+/// The recent commits of each seat, by its caller.
 #[derive(Drop)]
-struct PaceState {
-    seat: Seat,
-    moments: u64,
+struct CommitTable {
+    seats: Vec<RecentCommits>,
 }
 
-/// What sessions share to keep pace, with the number of workers, and for how many milliseconds a commit waits at most.
+impl CommitTable {
+    /// For callers up to this one, without a commit.
+    fn new(alloc: Global, callers: u32) -> Result<CommitTable, AllocError>
+        ensures { IfOk result
+            (λ made. made.seats.items ≡ replicate (callers + 1) no_commits) }
+    {
+        let seats = vec![in alloc; RecentCommits::NONE; callers as usize + 1]?;
+        Ok(CommitTable { seats })
+    }
+
+    /// Counts a commit of this caller, if it may commit now that this number of rests was counted. Whether it may.
+    fn count(&mut self, caller: u32, rests: u64) -> bool
+        ensures { IsCounted (slice_get self.old.seats.items caller) self.old.seats.items
+            caller rests result self.new.seats.items }
+    {
+        let place = caller as usize;
+        let Some(recent) = self.seats.get(place).copied() else {
+            return true;
+        };
+        if !recent.may_commit(rests) {
+            return false;
+        }
+        self.seats[place] = recent.then(rests);
+        true
+    }
+}
+
+/// How many rests were counted when a session last let go a key without a result.
+#[derive(Drop)]
+struct LastRelease {
+    rests: Option<u64>,
+}
+
+impl LastRelease {
+    /// Whether a session may take a key, now that this number of rests was counted: workers could take all that was let go.
+    fn may_take(&self, rests: u64) -> bool
+        ensures { IsTrue result ↔ (self.now.rests ≢ Some rests) }
+    {
+        self.rests != Some(rests)
+    }
+}
+
+/// The turn of a call that takes a key or lets one go. Meanwhile no other session makes such a call.
+#[derive(Drop)]
+pub(crate) struct Turn<'a> {
+    last: MutexGuard<'a, LastRelease>,
+}
+
+impl Turn<'_> {
+    /// Ends, after a call that perhaps lets a key go.
+    pub(crate) fn end(self, shared: &Shared, lets_go: bool) {
+        let Self { mut last } = self;
+        if lets_go {
+            last.rests = Some(shared.rests());
+        }
+    }
+}
+
+/// Pauses before the next look. A rest may have come before what waits for it.
+fn look_again<R: Wait + Clock>(rt: &R, shared: &Shared) {
+    thread::sleep(rt, Duration::from_millis(LOOK));
+    shared.look_for_rest(rt);
+}
+
+/// What sessions share to keep pace, and for how many milliseconds a call waits at most.
 pub struct Pace {
-    state: Mutex<PaceState>,
-    workers: u64,
+    commits: Mutex<CommitTable>,
+    release: Mutex<LastRelease>,
     length: u64,
 }
 
 impl Drop for Pace {
     fn drop(self) {
         let Self {
-            state: _,
-            workers: _,
+            commits: _,
+            release: _,
             length: _,
         } = self;
     }
 }
 
 impl Pace {
-    /// The moment before the first commit is one with few pending keys.
-    pub fn new(seat: Seat, workers: u64, length: u64) -> Pace {
-        Pace {
-            state: Mutex::new(PaceState { seat, moments: 1 }),
-            workers,
-            length,
-        }
+    /// For callers up to this one, and for this number of workers and of milliseconds. Without a worker no call waits.
+    pub fn new(alloc: Global, callers: u32, workers: u64, length: u64) -> Result<Pace, AllocError>
+        ensures { IfOk result
+            (λ made. made.length ≡ (if workers == 0 then 0 else length)) }
+    {
+        Ok(Pace {
+            commits: Mutex::new(CommitTable::new(alloc, callers)?),
+            release: Mutex::new(LastRelease { rests: None }),
+            length: if workers == 0 { 0 } else { length },
+        })
     }
 
-    /// The seat, once no session commits any more.
-    pub fn into_seat(self) -> Seat {
-        let Pace {
-            state,
-            workers: _,
-            length: _,
-        } = self;
-        let PaceState { seat, moments: _ } = state.into_inner();
-        seat
-    }
-
-    /// Waits until a session with these recent commits may commit, but not for too long. It gives them with this one.
-    pub(crate) fn await_turn<R: Wait + Clock>(
-        &self,
-        rt: &R,
-        shared: &Shared,
-        leases: &Leases,
-        commits: RecentCommits,
-    ) -> RecentCommits {
+    /// Waits until this caller may commit, but not for too long, and counts the commit.
+    pub(crate) fn await_commit<R: Wait + Clock>(&self, rt: &R, shared: &Shared, caller: u32) {
         let begun = Instant::now(rt).ok();
         for _ in 0..self.length {
-            let moments = self.look(rt, shared, leases);
-            if commits.may_commit(moments) || self.is_over(rt, begun) {
-                return commits.then(moments);
+            let may_commit = self.commits.lock(rt).count(caller, shared.rests());
+            if may_commit || self.is_over(rt, shared, begun) {
+                return;
             }
-            thread::sleep(rt, Duration::from_millis(LOOK));
+            look_again(rt, shared);
         }
-        commits
     }
 
-    /// Counts this moment if few keys are pending, and gives the count.
-    fn look<R: Wait>(&self, rt: &R, shared: &Shared, leases: &Leases) -> u64 {
-        let held = leases.count(rt);
-        let mut state = self.state.lock(rt);
-        let pending = pending(rt, shared, &mut state.seat);
-        if are_few(pending, held, self.workers) {
-            state.moments = state.moments.saturating_add(1);
+    /// Waits until a session may take a key, but not for too long.
+    pub(crate) fn await_take<R: Wait + Clock>(&self, rt: &R, shared: &Shared) -> Turn<'_> {
+        let begun = Instant::now(rt).ok();
+        for _ in 0..self.length {
+            let turn = self.turn(rt);
+            if turn.last.may_take(shared.rests()) || self.is_over(rt, shared, begun) {
+                return turn;
+            }
+            drop(turn);
+            look_again(rt, shared);
         }
-        state.moments
+        self.turn(rt)
+    }
+
+    /// Waits until no other session takes a key or lets one go.
+    pub(crate) fn turn<R: Wait>(&self, rt: &R) -> Turn<'_> {
+        Turn {
+            last: self.release.lock(rt),
+        }
     }
 
     /// Whether a wait that began then was long enough.
-    fn is_over<R: Clock>(&self, rt: &R, begun: Option<Instant>) -> bool {
-        let Some(begun) = begun else {
-            return true;
+    fn is_over<R: Clock>(&self, rt: &R, shared: &Shared, begun: Option<Instant>) -> bool {
+        let most = if shared.is_closing() {
+            self.length.min(CLOSING)
+        } else {
+            self.length
         };
-        match begun.elapsed(rt) {
-            Ok(passed) => Duration::from_millis(self.length) <= passed,
-            Err(_) => true,
+        match begun.map(|it| it.elapsed(rt)) {
+            Some(Ok(passed)) => Duration::from_millis(most) <= passed,
+            _ => true,
         }
-    }
-}
-
-/// How many keys are pending; none if there is no memory for the answer.
-fn pending<R: Wait>(rt: &R, shared: &Shared, seat: &mut Seat) -> u64 {
-    match shared.read(rt, seat, &Reading::Status) {
-        Ok(
-            Some(
-                Showing::Status {
-                    counts,
-                    workbench: _,
-                },
-            ),
-        ) => counts.pending,
-        _ => 0,
     }
 }

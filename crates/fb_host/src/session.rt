@@ -63,7 +63,6 @@ pub fn run_host_session<R: Wait + Clock, F: Feed, S: Sink>(
         store: _,
         leases: _,
         pace: _,
-        commits: _,
     } = desk;
     let Seated {
         rt: _,
@@ -88,11 +87,15 @@ pub fn give_back_all<R: Wait>(
     rt: &R,
     shared: &Shared,
     store: &ReceiptStore,
+    pace: &Pace,
     state: &mut CallerState,
 )
     // The calls lead from the old seat to the new one.
     ensures { LeadsTo state.old.seat state.new.seat }
 {
+    let lets_go = !state.held.is_empty();
+    let turn = pace.turn(rt);
     give_back_held(rt, shared, state);
+    turn.end(shared, lets_go);
     store.add(rt, shared.last_roll(), &mut state.receipts);
 }

@@ -3,7 +3,7 @@ ghost use Rattle.std.specs.Prelude.{◌≡◌, []};
 ghost use Rattle.fb_host.specs.HostSessions.{session_of};
 
 use crate::leases::Leases;
-use crate::pace::{Pace, RecentCommits};
+use crate::pace::{Pace, Turn};
 use crate::receipt_store::ReceiptStore;
 use crate::session_receipts::SessionReceipts;
 use fb_locked::bench::{
@@ -19,8 +19,8 @@ use std::marker::Model;
 use std::sync::Wait;
 use std::time::{Clock, Duration};
 
-/// A shared workbench as the desk of one seat, whose receipts go to the store, with its recent commits. It never answers that the history is full: only lack of
-/// memory keeps a full one from beginning again.
+/// A shared workbench as the desk of one seat, whose receipts go to the store. It never answers that the history is full: only lack of memory keeps a full one
+/// from beginning again.
 #[derive(Drop)]
 pub struct SessionDesk<'a, R: Wait> {
     pub(crate) seated: Seated<'a, R>,
@@ -30,7 +30,6 @@ pub struct SessionDesk<'a, R: Wait> {
     pub(crate) store: &'a ReceiptStore,
     pub(crate) leases: &'a Leases,
     pub(crate) pace: &'a Pace,
-    pub(crate) commits: RecentCommits,
 }
 
 impl<'a, R: Wait> Model for SessionDesk<'a, R> {
@@ -71,7 +70,6 @@ impl<'a, R: Wait> SessionDesk<'a, R> {
             store,
             leases,
             pace,
-            commits: RecentCommits::NONE,
         }
     }
 }
@@ -94,10 +92,8 @@ impl<R: Wait + Clock> Desk for SessionDesk<'_, R> {
     }
 
     fn perform(&mut self, request: &Request<'_>) -> Result<Answered, DeskError> {
-        if matches!(request, Request::Commit(_)) {
-            let (rt, shared) = (self.seated.rt, self.shared);
-            self.commits = self.pace.await_turn(rt, shared, self.leases, self.commits);
-        }
+        let (rt, shared, caller) = (self.seated.rt, self.shared, self.seated.seat.caller());
+        let turn = await_turn(rt, shared, self.pace, caller, request);
         if self.held.reserve(1).is_err() {
             let is_behind = self.shared.is_behind(self.seated.rt, &self.seated.seat);
             return Err(if is_behind {
@@ -113,21 +109,13 @@ impl<R: Wait + Clock> Desk for SessionDesk<'_, R> {
                         self.session_receipts = self.session_receipts.then(receipt);
                         let number = receipt.number();
                         note(&mut self.held, request, &answer, number);
-                        let caller = receipt.caller();
-                        lease(
-                            self.seated.rt,
-                            self.leases,
-                            caller,
-                            request,
-                            &answer,
-                            number,
-                        );
+                        lease(rt, self.leases, caller, request, &answer, number);
                     }
                     None => unreachable!(),
                 }
-                let start = self.shared.last_roll();
-                self.store
-                    .add(self.seated.rt, start, &mut self.seated.receipts);
+                end_turn(shared, turn, &answer);
+                let start = shared.last_roll();
+                self.store.add(rt, start, &mut self.seated.receipts);
                 Ok(answer)
             }
             Err(DeskError::HistoryFull) => Err(DeskError::Memory),
@@ -151,6 +139,33 @@ impl<R: Wait + Clock> Desk for SessionDesk<'_, R> {
             Reading::Events(after) => shared.watch(rt, seat, *after, Duration::from_millis(wait)),
             _ => shared.read(rt, seat, reading),
         }
+    }
+}
+
+/// Waits until a caller may make a call. The turn of one that takes a key or gives one back is then its own.
+fn await_turn<'a, R: Wait + Clock>(
+    rt: &R,
+    shared: &Shared,
+    pace: &'a Pace,
+    caller: u32,
+    request: &Request<'_>,
+) -> Option<Turn<'a>> {
+    match request {
+        Request::Commit(_) => {
+            pace.await_commit(rt, shared, caller);
+            None
+        }
+        Request::Take => Some(pace.await_take(rt, shared)),
+        Request::GiveBack(_) => Some(pace.turn(rt)),
+        Request::Deliver(_) | Request::Ask(_) => None,
+    }
+}
+
+/// Ends the turn of a call with this answer.
+fn end_turn(shared: &Shared, turn: Option<Turn<'_>>, answer: &Answered) {
+    let lets_go = matches!(answer, Answered::GiveBack(GivenBack::Returned));
+    if let Some(turn) = turn {
+        turn.end(shared, lets_go);
     }
 }
 

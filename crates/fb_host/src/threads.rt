@@ -63,8 +63,7 @@ impl Results {
         }
     }
 
-    /// Adds a seat.
-    pub(crate) fn add_seat(&mut self, seat: Seat)
+    fn add_seat(&mut self, seat: Seat)
         ensures { IsTrue self.new.is_whole → IsTrue self.old.is_whole }
     {
         self.is_whole &= self.seats.push(seat).is_ok();
@@ -352,7 +351,7 @@ fn run_sessions<R: Wait + Clock>(
         };
         let (left, notice) = serve_connection(rt, alloc, host, state, &connection);
         state = left;
-        give_back_all(rt, &host.shared, &host.receipts, &mut state);
+        give_back_all(rt, &host.shared, &host.receipts, &host.pace, &mut state);
         if state.held.is_empty() {
             host.leases.end(rt, caller);
         }

@@ -1,5 +1,5 @@
-//! What keeps nobody out and holds nobody up: connections that say nothing, sessions that commit without end, errors that nobody reads, and a system that gives
-//! no connection.
+//! What keeps nobody out and holds nobody up: connections that say nothing, sessions that commit without end or take keys again and again, errors that nobody
+//! reads, and a system that gives no connection.
 use crate::play::compare;
 use std::test::Fail;
 
@@ -56,16 +56,114 @@ wait 400
 1 leaves
 "#;
 
-const STORM: &str = r#"
-== A session commits a thousand times, and another one gets its faults meanwhile / connections 2 / sessions 2 / workers 1 / units 100 / history 100000 / commit 20000 / calls any / errors any
-0 storms 60 1000
-1 sees ZZ => {"faults":[["WITH_UNKNOWN",37,38]]}
+// In each conversation a worker needs a second or so for the structures that `uses` commits, and each type that `adds` commits makes these pending again. The
+// last name must have its faults nevertheless.
+const FLOODS: &str = r#"
+== Four sessions commit at once / connections 6 / sessions 5 / workers 1 / units 1000 / history 100000 / calls any
+0 uses 4
+0 asks {"op":"commit","changes":[{"put":"ZZ","base":0,"text":"FUNCTION_BLOCK ZZ EVENT_INPUT E WITH X; END_EVENT END_FUNCTION_BLOCK"}]} => {"commit":5}
+1 adds 10 from 0
+2 adds 10 from 10
+3 adds 10 from 20
+4 adds 10 from 30
+each 1 to 4 reads 10
+wait 100
+0 asks {"op":"ask","kind":"faults","unit":"ZZ"} => {"faults":[["WITH_UNKNOWN",37,38]]}
+leave 0 to 4
+5 asks {"op":"ask","kind":"faults","unit":"ZZ"} => {"faults":[["WITH_UNKNOWN",37,38]]}
+5 leaves
+
+== A new session comes for each eight commits / connections 5 / sessions 2 / workers 1 / units 1000 / history 100000 / calls any
+0 uses 2
+0 asks {"op":"commit","changes":[{"put":"ZZ","base":0,"text":"FUNCTION_BLOCK ZZ EVENT_INPUT E WITH X; END_EVENT END_FUNCTION_BLOCK"}]} => {"commit":3}
+1 adds 8 from 0
+1 reads 8
 1 leaves
+2 adds 8 from 8
+2 reads 8
+2 leaves
+3 adds 8 from 16
+3 reads 8
+3 leaves
+wait 100
+0 asks {"op":"ask","kind":"faults","unit":"ZZ"} => {"faults":[["WITH_UNKNOWN",37,38]]}
+0 leaves
+4 asks {"op":"ask","kind":"faults","unit":"ZZ"} => {"faults":[["WITH_UNKNOWN",37,38]]}
+4 leaves
+
+== Two sessions hold keys that are pending again / connections 4 / sessions 3 / workers 1 / units 1000 / history 100000 / calls any
+0 uses 2
+0 grabs 64
+0 reads 64
+0 adds 1 from 0
+0 reads 1
+1 grabs 64
+1 reads 64
+2 adds 1 from 1
+2 reads 1
+0 asks {"op":"commit","changes":[{"put":"ZZ","base":0,"text":"FUNCTION_BLOCK ZZ EVENT_INPUT E WITH X; END_EVENT END_FUNCTION_BLOCK"}]} => {"commit":5}
+2 adds 12 from 2
+2 reads 12
+wait 100
+0 asks {"op":"ask","kind":"faults","unit":"ZZ"} => {"faults":[["WITH_UNKNOWN",37,38]]}
+leave 0 to 2
+3 asks {"op":"ask","kind":"faults","unit":"ZZ"} => {"faults":[["WITH_UNKNOWN",37,38]]}
+3 leaves
+"#;
+
+const GRABS: &str = r#"
+== A session takes a key again that it has kept for too long / connections 3 / sessions 2 / key 1000 / workers 1 / units 1000 / history 100000 / calls any
+0 uses 1
+0 asks {"op":"commit","changes":[{"put":"A","base":0,"text":"FUNCTION_BLOCK A EVENT_INPUT E WITH X; END_EVENT END_FUNCTION_BLOCK"}]} => {"commit":2}
+0 grabs 1
+0 reads 1
+wait 980
+0 grabs 20000
+wait 300
+1 asks {"op":"ask","kind":"faults","unit":"A"} => {"faults":[["WITH_UNKNOWN",36,37]]}
+0 reads 20000
+leave 0 to 1
+2 asks {"op":"ask","kind":"faults","unit":"A"} => {"faults":[["WITH_UNKNOWN",36,37]]}
+2 leaves
+
+== A session gives a key back and takes it again / connections 3 / sessions 2 / workers 1 / units 1000 / history 100000 / calls any
+0 uses 1
+0 asks {"op":"commit","changes":[{"put":"ZZ","base":0,"text":"FUNCTION_BLOCK ZZ EVENT_INPUT E WITH X; END_EVENT END_FUNCTION_BLOCK"}]} => {"commit":2}
+0 grabs 17
+0 reads 17
+0 regrabs ZZ 20
+wait 500
+1 asks {"op":"ask","kind":"faults","unit":"ZZ"} => {"faults":[["WITH_UNKNOWN",37,38]]}
+leave 0 to 1
+2 asks {"op":"ask","kind":"faults","unit":"ZZ"} => {"faults":[["WITH_UNKNOWN",37,38]]}
+2 leaves
+"#;
+
+const CLOSING: &str = r#"
+== The host closes while the ninth commit of a session waits / connections 2 / sessions 2 / workers 1 / units 1000 / history 100000 / calls any
+0 uses 6
+0 asks {"op":"commit","changes":[{"put":"ZZ","base":0,"text":"FUNCTION_BLOCK ZZ EVENT_INPUT E WITH X; END_EVENT END_FUNCTION_BLOCK"}]} => {"commit":7}
+0 adds 2 from 0
+wait 200
+1 asks {"op":"ask","kind":"net","unit":"A"} => {"refused":"NoSuchKey"}
+0 reads 2
+0 asks {"op":"ask","kind":"faults","unit":"ZZ"} => {"answer":"pending"}
+leave 0 to 1
 "#;
 
 #[test]
 fn who_commits_without_end_waits_for_the_workers(rt: HostRuntime) -> Result<(), Fail> {
-    compare(&rt, rt.alloc(), STORM)
+    compare(&rt, rt.alloc(), FLOODS)
+}
+
+#[test]
+fn a_key_that_is_let_go_is_the_workers_first(rt: HostRuntime) -> Result<(), Fail> {
+    compare(&rt, rt.alloc(), GRABS)
+}
+
+#[test]
+fn a_commit_does_not_hold_up_the_close(rt: HostRuntime) -> Result<(), Fail> {
+    compare(&rt, rt.alloc(), CLOSING)
 }
 
 #[test]

@@ -9,11 +9,12 @@ use std::{io, thread};
 /// How many milliseconds a peer waits for what it must get, and for a worker.
 const BOUND: u64 = 20_000;
 
-/// How many commits of others may be made until the faults of a unit are there.
-const MEANWHILE: usize = 20;
+/// How many fields a structure has, of how many types, and how many of these structures are in a commit.
+const FIELDS: usize = 1500;
 
-/// How many fields a structure has that uses another one.
-const FIELDS: u32 = 300;
+const TYPES: usize = 60;
+
+const AT_ONCE: usize = 16;
 
 /// How many milliseconds pass from one byte to the next where a peer sends one now and then, and how many bytes it sends.
 const NOW_AND_THEN: u64 = 20;
@@ -181,45 +182,90 @@ pub(crate) fn commit_all<R: Clock>(
     Ok(known)
 }
 
-// The fields of a structure that uses another one often, so that its check takes longer than a commit.
+// The fields of a structure, of types N0, N1 and so on: one more of these makes all that is known of the structure pending, and its check takes longer than a
+// commit.
 fn fields(alloc: Global) -> Result<String, AllocError> {
     let mut fields = String::new(alloc);
     for number in 0..FIELDS {
-        fields.push_str(format!(in alloc; "F{number} : T; ")?.as_str())?;
+        let of = number % TYPES;
+        fields.push_str(format!(in alloc; "F{number} : N{of}; ")?.as_str())?;
     }
     Ok(fields)
 }
 
-// Commits this number of structures that use one more, and then that one.
-fn commit_users(alloc: Global, stream: &TcpStream, users: usize) -> io::Result<String> {
-    let fields = fields(alloc)?;
-    for number in 0..users {
-        let line = format!(in alloc;
-            r#"{{"op":"commit","changes":[{{"put":"T{number}","base":0,"text":"TYPE T{number} : STRUCT {fields}END_STRUCT END_TYPE"}}]}}"#
-        )?;
-        ask(alloc, stream, line.as_str())?;
+// A commit of sixteen structures with these fields, from this number on.
+fn users(alloc: Global, fields: &str, first: usize) -> Result<String, AllocError> {
+    let mut line = String::from_str(alloc, r#"{"op":"commit","changes":["#)?;
+    for number in first..first.saturating_add(AT_ONCE) {
+        let mark = if number == first { "" } else { "," };
+        line.push_str(format!(in alloc;
+            r#"{mark}{{"put":"M{number}","base":0,"text":"TYPE M{number} : STRUCT {fields}END_STRUCT END_TYPE"}}"#
+        )?.as_str())?;
     }
-    let first =
-        r#"{"op":"commit","changes":[{"put":"T","base":0,"text":"TYPE T : STRUCT F : INT; END_STRUCT END_TYPE"}]}"#;
-    ask(alloc, stream, first)
+    line.push_str("]}")?;
+    Ok(line)
 }
 
-/// Commits this number of structures that use one more, and then that one this number of times, and reads no reply to these.
-pub(crate) fn storm(
+/// Commits structures M0, M1 and so on, this number times sixteen, with many fields of types that are not there.
+pub(crate) fn commit_users(alloc: Global, stream: &TcpStream, times: usize) -> io::Result<String> {
+    let fields = fields(alloc)?;
+    for number in 0..times {
+        let line = users(alloc, &fields, number.saturating_mul(AT_ONCE))?;
+        ask(alloc, stream, line.as_str())?;
+    }
+    Ok(String::new(alloc))
+}
+
+/// Commits this number of these types, from a number on, and reads no reply.
+pub(crate) fn add_types(
     alloc: Global,
     stream: &TcpStream,
-    users: usize,
-    times: usize,
+    count: usize,
+    first: usize,
 ) -> io::Result<String> {
-    commit_users(alloc, stream, users)?;
-    for base in users..users.saturating_add(times) {
-        let base = base.saturating_add(1);
+    for number in first..first.saturating_add(count) {
         let line = format!(in alloc;
-            "{{\"op\":\"commit\",\"changes\":[{{\"put\":\"T\",\"base\":{base},\"text\":\"TYPE T : STRUCT F : INT; END_STRUCT END_TYPE\"}}]}}\n"
+            "{{\"op\":\"commit\",\"changes\":[{{\"put\":\"N{number}\",\"base\":0,\"text\":\"TYPE N{number} : STRUCT F : INT; END_STRUCT END_TYPE\"}}]}}\n"
         )?;
         say(stream, line.as_str())?;
     }
     Ok(String::new(alloc))
+}
+
+/// Gets this number of lines.
+pub(crate) fn get_lines(alloc: Global, stream: &TcpStream, count: usize) -> io::Result<String> {
+    for _ in 0..count {
+        get(alloc, stream)?;
+    }
+    Ok(String::new(alloc))
+}
+
+/// Sends this number of takes, and reads no reply.
+pub(crate) fn grab(alloc: Global, stream: &TcpStream, times: usize) -> io::Result<String> {
+    let mut lines = String::new(alloc);
+    for _ in 0..times {
+        lines.push_str(TAKE)?;
+        lines.push('\n')?;
+    }
+    say(stream, lines.as_str())?;
+    Ok(String::new(alloc))
+}
+
+/// Gives the faults of a unit back and takes again, this number of times, and reads the replies then.
+pub(crate) fn regrab(
+    alloc: Global,
+    stream: &TcpStream,
+    unit: &str,
+    times: usize,
+) -> io::Result<String> {
+    let mut lines = String::new(alloc);
+    for _ in 0..times {
+        lines.push_str(format!(in alloc;
+            "{{\"op\":\"give_back\",\"kind\":\"faults\",\"unit\":\"{unit}\"}}\n{TAKE}\n"
+        )?.as_str())?;
+    }
+    say(stream, lines.as_str())?;
+    get_lines(alloc, stream, times.saturating_mul(2))
 }
 
 /// Commits a unit A with this number of faults, and asks for work. It gives the reply to that.
@@ -234,44 +280,6 @@ pub(crate) fn commit_faults(alloc: Global, stream: &TcpStream, count: usize) -> 
     line.push_str(r#"; END_EVENT END_FUNCTION_BLOCK"}]}"#)?;
     ask(alloc, stream, line.as_str())?;
     ask(alloc, stream, r#"{"op":"work","turns":9}"#)
-}
-
-// How many commits were made.
-fn commits(alloc: Global, stream: &TcpStream) -> io::Result<usize> {
-    let status = ask(alloc, stream, r#"{"op":"status"}"#)?;
-    let behind = status.as_str().split_once(r#""commits":"#);
-    let number = behind
-        .and_then(|(_, behind)| behind.split_once(','))
-        .and_then(|(it, _)| it.parse::<usize>().ok());
-    Ok(number.ok_or(ErrorKind::InvalidData)?)
-}
-
-/// Commits a unit with a fault, and asks for its faults until they are there. It gives the last reply, or that many commits were made meanwhile.
-pub(crate) fn see<R: Clock>(
-    rt: &R,
-    alloc: Global,
-    stream: &TcpStream,
-    unit: &str,
-) -> io::Result<String> {
-    let begun = Instant::now(rt)?;
-    let commit = format!(in alloc;
-        r#"{{"op":"commit","changes":[{{"put":"{unit}","base":0,"text":"FUNCTION_BLOCK {unit} EVENT_INPUT E WITH X; END_EVENT END_FUNCTION_BLOCK"}}]}}"#
-    )?;
-    let question = format!(in alloc; r#"{{"op":"ask","kind":"faults","unit":"{unit}"}}"#)?;
-    let mut known = ask(alloc, stream, commit.as_str())?;
-    let first = commits(alloc, stream)?;
-    for _ in 0..LOOKS {
-        known = ask(alloc, stream, question.as_str())?;
-        let is_late = Duration::from_millis(BOUND) < begun.elapsed(rt)?;
-        if is_late || known.as_str() != "{\"answer\":\"pending\"}\n" {
-            break;
-        }
-    }
-    let further = commits(alloc, stream)?.saturating_sub(first);
-    if MEANWHILE < further {
-        return Ok(format!(in alloc; "{further} commits meanwhile\n")?);
-    }
-    Ok(known)
 }
 
 /// Sends a blank now and then, until its stream ends. It gives what it got, or that the stream is still open.

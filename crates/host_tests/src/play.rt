@@ -3,12 +3,12 @@
 //! A text has conversations, each a heading and steps. A heading is `== TITLE / SETTING VALUE / SETTING VALUE`, and so on. The settings are `connections`:
 //! after how many sessions the host closes, and `calls`: how many are made, and how many of them since the start of the history, or `any`. Unless others are
 //! there, a host has `sessions 1`, `workers 0`, `units 100`, `history 20`, `first-line 600000`, which are milliseconds, `idle 0`, and as its identity the
-//! numbers `high 0` and `low 0`; no `secret`, 32 zeros as the key of its challenges, `reply 600000`, `commit 0` and `key 600000`, which are milliseconds too,
+//! numbers `high 0` and `low 0`; no `secret`, 32 zeros as the key of its challenges, `reply 600000` and `key 600000`, which are milliseconds too,
 //! and it prints no `errors`, which may be `any` too. With `failing yes` the system gives no connection if none waits.
 ghost use Rattle.std.specs.Thread.{IsSync};
 
 use crate::steps::{first_wrong, lines_in};
-use fb_host::{HostConfig, Identity, host_on};
+use fb_host::{COMMIT_WAIT, HostConfig, Identity, host_on};
 use fb_serve::Ended;
 use fb_wire::MemorySink;
 use fb_wire::bench::Limits;
@@ -52,7 +52,7 @@ fn config_of(heading: &str) -> Result<HostConfig, Fail> {
         first_line_timeout: setting(heading, "first-line", "600000").parse()?,
         idle_timeout: setting(heading, "idle", "0").parse()?,
         reply_timeout: setting(heading, "reply", "600000").parse()?,
-        commit_wait: setting(heading, "commit", "0").parse()?,
+        commit_wait: COMMIT_WAIT,
         key_timeout: setting(heading, "key", "600000").parse()?,
         connections: setting(heading, "connections", "").parse()?,
         workbench: Identity {

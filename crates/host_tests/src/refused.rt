@@ -111,7 +111,7 @@ fn say_lines<R: Wait + Clock>(
         rt, alloc, shared, store, &leases, pace, state, &mut feed, &mut sink, 1000,
     );
     let is_refused = was_refused(alloc);
-    give_back_all(rt, shared, store, &mut state);
+    give_back_all(rt, shared, store, pace, &mut state);
     let session = Session {
         end,
         output,
@@ -135,7 +135,6 @@ fn is_closed<R: Wait>(
     alloc: Global,
     shared: Shared,
     store: ReceiptStore,
-    pace: Pace,
     state: CallerState,
 ) -> Result<bool, Fail> {
     let receipts = store.into_receipts(shared.before(rt));
@@ -146,7 +145,6 @@ fn is_closed<R: Wait>(
     } = state;
     let mut seats = Vec::new(alloc);
     seats.push(seat)?;
-    seats.push(pace.into_seat())?;
     match shared.close(alloc, seats, &receipts) {
         Ok(closed) => Ok(closed.bench.len() == receipts.len()),
         Err(_) => Ok(false),
@@ -160,11 +158,11 @@ fn tried<R: Wait + Clock>(rt: &R, alloc: Global, talk: Talk, number: u32) -> Res
         alloc,
         limits,
         u64::MAX,
-        2,
+        1,
         Identity { high: 7, low: 8 },
     )?;
     let store = ReceiptStore::new(alloc);
-    let pace = Pace::new(seats.pop().ok_or("no seat")?, 0, COMMIT_WAIT);
+    let pace = Pace::new(alloc, 1, 0, COMMIT_WAIT)?;
     let state = CallerState::new(alloc, seats.pop().ok_or("no seat")?);
     let (state, _) = say_lines(rt, alloc, &shared, &store, &pace, state, talk.before, 0)?;
     let (state, first) = say_lines(
@@ -179,7 +177,7 @@ fn tried<R: Wait + Clock>(rt: &R, alloc: Global, talk: Talk, number: u32) -> Res
     )?;
     let (state, last) = say_lines(rt, alloc, &shared, &store, &pace, state, talk.requests, 0)?;
     let is_done = last.end == RunEnd::End && last.output.ends_with(talk.last.as_bytes());
-    let is_closed = is_closed(rt, alloc, shared, store, pace, state)?;
+    let is_closed = is_closed(rt, alloc, shared, store, state)?;
     if !is_done || !is_closed || !is_right(&first, talk.replies) {
         return Err(Fail::from("another end"));
     }

@@ -12,8 +12,11 @@
 //! | `0 counts TEXT in LINE => 3` | it sends a line, and gets one with this text this number of times |
 //! | `0 puts 80` | it commits this number of units, one after another |
 //! | `0 commits 80 => REPLY` | it commits this number of units, from 10 to 99, and gets this of the last one once workers have checked all of them |
-//! | `0 storms 300 1000` | it commits this number of structures that use one more, and then that one this number of times, and reads no reply |
-//! | `0 sees ZZ => REPLY` | it commits this unit with a fault, and gets this of its faults before many further commits are made |
+//! | `0 uses 4` | it commits structures, this number times sixteen, with many fields of types that are not there |
+//! | `0 adds 9 from 20` | it commits this number of these types, from this one on, and reads no reply |
+//! | `0 reads 9` | it gets this number of lines |
+//! | `0 grabs 60` | it sends this number of takes, and reads no reply |
+//! | `0 regrabs ZZ 20` | it sends this number of times that it gives the faults of this unit back and takes again, and reads the replies then |
 //! | `0 errs 9000 => REPLY` | it commits a unit A with this number of faults and asks for work, and gets this |
 //! | `0 drips` | it sends a byte now and then, until it is closed |
 //! | `0 floods LINE` | it sends a line again and again and reads no reply, until it is closed |
@@ -31,8 +34,8 @@
 //! | `within 9000` | at most this number |
 //! | `wait 400` | this number of milliseconds pass |
 use crate::peers::{
-    commit_all, commit_faults, commit_units, connect, count, drip, end, flood, get, leave, prove,
-    repeat, rest, say, see, storm, take, take_challenge,
+    add_types, commit_all, commit_faults, commit_units, commit_users, connect, count, drip, end,
+    flood, get, get_lines, grab, leave, prove, regrab, repeat, rest, say, take, take_challenge,
 };
 use std::alloc::{AllocError, Global};
 use std::io::ErrorKind;
@@ -199,12 +202,18 @@ fn got<R: Clock>(
             Ok(String::new(alloc))
         }
         ("commits", count) => commit_all(rt, alloc, stream, number_in(count)?),
-        ("storms", words) => {
-            let (users, times) = words.split_once(' ').ok_or(ErrorKind::InvalidInput)?;
-            storm(alloc, stream, number_in(users)?, number_in(times)?)
+        ("uses", times) => commit_users(alloc, stream, number_in(times)?),
+        ("adds", words) => {
+            let (count, first) = words.split_once(" from ").ok_or(ErrorKind::InvalidInput)?;
+            add_types(alloc, stream, number_in(count)?, number_in(first)?)
+        }
+        ("reads", count) => get_lines(alloc, stream, number_in(count)?),
+        ("grabs", times) => grab(alloc, stream, number_in(times)?),
+        ("regrabs", words) => {
+            let (unit, times) = words.split_once(' ').ok_or(ErrorKind::InvalidInput)?;
+            regrab(alloc, stream, unit, number_in(times)?)
         }
         ("errs", count) => commit_faults(alloc, stream, number_in(count)?),
-        ("sees", unit) => see(rt, alloc, stream, unit),
         ("drips", "") => drip(alloc, stream),
         ("takes", "") => take(rt, alloc, stream),
         ("ends", line) => end(alloc, stream, line),
