@@ -8,14 +8,16 @@ ghost use Rattle.fb_locked.specs.History.declared.reading.Reading.TheVariants.{E
 ghost use Rattle.fb_shared.specs.{Seated.{unnamed}, UnderLock.{IsReplayed, UnderLock}};
 
 use crate::rolling::Rolling;
-use fb_locked::bench::{Answered, Bench, Identity, Limits, MOST_CALLS, Reading, Request, Showing};
+use fb_locked::bench::{
+    Answered, Bench, Identity, Limits, MOST_CALLS, Reading, Record, Request, Showing,
+};
 use fb_locked::jobs::{Finished, Job, Key};
 use fb_locked::library::Change;
 use fb_locked::{Closed, Locked, NotClosed, NotResumed, Receipt, Seat, SharedRefused, close_for};
 use std::alloc::{AllocError, Global};
 use std::marker::Model;
 use std::sync::atomic::{AtomicBool, AtomicU64, Ordering};
-use std::sync::{Condvar, CondvarTimeouts, Mutex, MutexGuard, Wait};
+use std::sync::{Arc, Condvar, CondvarTimeouts, Mutex, MutexGuard, Wait};
 use std::thread;
 use std::time::{Clock, Duration};
 
