@@ -148,9 +148,9 @@ class HostTest(Shared):
         state.unlink(missing_ok=True)
         with closing(sqlite3.connect(state)) as tables, tables:
             tables.execute("CREATE TABLE workbench (identity TEXT NOT NULL)")
-            tables.execute("CREATE TABLE common (unit TEXT PRIMARY KEY, file TEXT NOT NULL, revision INTEGER NOT NULL, text TEXT NOT NULL)")
+            tables.execute("CREATE TABLE common (unit TEXT PRIMARY KEY, file TEXT NOT NULL, revision INTEGER NOT NULL, text TEXT NOT NULL, workbench TEXT NOT NULL)")
             tables.execute("INSERT INTO workbench VALUES (?)", (workbench,))
-            tables.executemany("INSERT INTO common VALUES (?, ?, 1, ?)", [(unit, f"{unit}.fb", text) for unit, text in common.items()])
+            tables.executemany("INSERT INTO common VALUES (?, ?, 1, ?, ?)", [(unit, f"{unit}.fb", text, workbench) for unit, text in common.items()])
         made = json.loads(self.check(self.port, "--json").stdout)
         return {it["unit"]: it["difference"] for it in made["differences"]}
 

@@ -265,11 +265,11 @@ class StateTest(HostileTest):
         (self.plant / ".bench61499").rename(self.folder / "away")
         Store(self.plant).close()
         self.state = self.plant / ".bench61499" / "state.sqlite"
-        self.make("INSERT INTO workbench VALUES ('x'); INSERT INTO common VALUES ('A', x'00', 1, x'01'), (x'02', 'b.fb', 1, 'B')")
+        self.make("INSERT INTO workbench VALUES ('x'); INSERT INTO common VALUES ('A', x'00', 1, x'01', 'x'), (x'02', 'b.fb', 1, 'B', 'x')")
         opened = Store(self.plant)
         self.assertEqual(opened.common, {})
         opened.close()
-        self.make("INSERT INTO common VALUES ('C', 'c.fb', 1, zeroblob(2000000))")
+        self.make("INSERT INTO common VALUES ('C', 'c.fb', 1, zeroblob(2000000), 'x')")
         self.assertEqual(last_common([self.plant], "x"), {})
         self.assertRaises(Misuse, Store, self.plant)
 

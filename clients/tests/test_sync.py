@@ -297,6 +297,9 @@ class Kept:
     def kept(self) -> list[str]:
         return sorted(it.read_text() for it in self.folder.glob(".bench61499/kept/*/*"))
 
+    def conflicts(self) -> list[Path]:
+        return list(self.folder.glob("*.theirs"))
+
 
 class KeeperTest(InFolder):
     def setUp(self) -> None:
@@ -660,8 +663,8 @@ class LostTest(KeeperTest):
         self.host.start()
         self.session = self.open()
 
-    def test_an_older_text_does_not_win_over_a_later_one(self) -> None:
-        """Whoever comes first after a restart may have been away while it was replaced."""
+    def earlier(self) -> tuple[Kept, Kept]:
+        """Two folders after a restart of the host: the second one, which is the first to put A, has a text that the other one had before."""
         one, other = self.both()
         other.close()
         one.file("A.fb").write_text(HOT)
@@ -671,9 +674,65 @@ class LostTest(KeeperTest):
         other = self.keeping("other")
         self.settle(other)
         self.assertEqual(self.team(), {"A": A})
-        one = self.keeping("one")
+        return self.keeping("one"), other
+
+    def test_neither_an_older_text_nor_one_that_somebody_went_back_to_is_replaced(self) -> None:
+        """Nobody can tell which of them it is, so the user is asked."""
+        for is_older in (True, False):
+            one, other = self.earlier()
+            with redirect_stdout(io.StringIO()) as said:
+                self.settle(one, other)
+            self.assertEqual([one.texts(), other.texts(), self.team()], [{"A.fb": HOT}, {"A.fb": A}, {"A": A}])
+            self.assertIn("which this folder had before its text: somebody may have gone back to it: that is A.fb.theirs now", said.getvalue())
+            self.answer(one, is_older)
+            self.settle(one, other)
+            expected = HOT if is_older else A
+            self.assertEqual([one.texts(), other.texts(), self.team(), one.store.conflicts], [{"A.fb": expected}, {"A.fb": expected}, {"A": expected}, {}])
+            for it in one, other:
+                it.close()
+                shutil.rmtree(it.folder)
+            self.restart()
+
+    def answer(self, kept: Kept, is_mine: bool) -> None:
+        beside = kept.file("A.fb.theirs")
+        if is_mine:
+            beside.unlink()
+        else:
+            beside.rename(kept.file("A.fb"))
+
+    def test_a_text_that_the_user_has_gone_back_to_is_the_last_one(self) -> None:
+        one, other = self.both()
+        for text in (HOT, A):
+            one.file("A.fb").write_text(text)
+            self.settle(one, other)
+        self.restart()
         self.settle(one, other)
-        self.assertEqual([one.texts(), other.texts(), self.team()], [{"A.fb": HOT}, {"A.fb": HOT}, {"A": HOT}])
+        self.assertEqual([one.texts(), other.texts(), self.team(), one.conflicts(), other.conflicts()], [{"A.fb": A}, {"A.fb": A}, {"A": A}, [], []])
+
+    def test_what_is_in_question_stays_so(self) -> None:
+        """A restart of the host is no answer, whether its workbench has no text of the unit or the one before both."""
+        for first in (None, A):
+            one, other = self.both()
+            one.file("A.fb").write_text(HOT)
+            self.settle(one)
+            one.close()
+            other.file("A.fb").write_text(HOTTER)
+            self.settle(other)
+            self.restart()
+            if first:
+                self.session.commit([Put("A", 0, first)])
+            self.settle(other)
+            self.assertEqual((other.texts(), other.file("A.fb.theirs").read_text(), self.team()), ({"A.fb": HOTTER}, HOT, {"A": first} if first else {}))
+            with redirect_stdout(io.StringIO()) as said:
+                for theirs in filter(None, (HOT, first)):
+                    self.assertEqual(other.file("A.fb.theirs").read_text(), theirs)
+                    self.answer(other, is_mine=True)
+                    self.settle(other)
+            self.assertEqual((self.team(), "others had removed" in said.getvalue()), ({"A": HOTTER}, False))
+            other.close()
+            for it in one, other:
+                shutil.rmtree(it.folder)
+            self.restart()
 
     def test_who_has_changed_nothing_gets_what_another_one_was_first_to_put(self) -> None:
         """Also if he has met the workbench while it had nothing; it is no conflict."""
@@ -702,7 +761,8 @@ class LostTest(KeeperTest):
 
         return late
 
-    def test_an_older_text_that_comes_first_does_not_win(self) -> None:
+    def test_a_former_text_that_comes_first_is_in_question(self) -> None:
+        """Also if the workbench had no text of the unit when it was met."""
         one, other = self.both()
         one.file("A.fb").write_text(HOT)
         self.settle(one, other)
@@ -710,7 +770,7 @@ class LostTest(KeeperTest):
         self.restart()
         with patch.object(Outgoing, "send", self.overtaken(A)):
             self.settle(one)
-        self.assertEqual((one.texts(), self.team(), one.store.conflicts), ({"A.fb": HOT}, {"A": HOT}, {}))
+        self.assertEqual((one.texts(), self.team(), one.file("A.fb.theirs").read_text()), ({"A.fb": HOT}, {"A": A}, A))
 
     def test_another_text_after_a_restart_is_merged_with_mine(self) -> None:
         one, _ = self.both()
@@ -767,7 +827,7 @@ class HostileTest(KeeperTest):
         beside = self.write("outside.fb.theirs", HOT)
         for name in ("../outside.fb", str(outside), ".git/config", "../new.fb", "Makefile"):
             with sqlite3.connect(one.store.folder / "state.sqlite") as state:
-                state.execute("INSERT OR REPLACE INTO common VALUES ('A', ?, 1, ?)", (name, A))
+                state.execute("INSERT OR REPLACE INTO common VALUES ('A', ?, 1, ?, 'x')", (name, A))
                 state.execute("INSERT OR REPLACE INTO conflict VALUES ('A', ?, 1, ?)", (name, A))
                 state.execute("INSERT OR REPLACE INTO conflict VALUES ('../../../B', 'B.fb', 1, ?)", (A,))
             self.session.commit([Put("A", self.session.revision("A"), BELOW)])

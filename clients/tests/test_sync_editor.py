@@ -1,10 +1,16 @@
 """An editor and a `sync` in one folder, beside a colleague: what is not saved is left to the editor, and what is saved undoes nothing that others have done."""
 from __future__ import annotations
 
+import fcntl
+import os
 import signal
+import sqlite3
+import threading
 import time
 import unittest
+from contextlib import closing
 from pathlib import Path
+from subprocess import CompletedProcess
 
 from editing import Editor
 from support import InFolder, run, until
@@ -13,10 +19,12 @@ from syncing import TEXT, Host, Syncing, team_texts
 from bench61499 import Commit, Put, Remove, Session
 from bench61499.lsp.choices import PUT
 from bench61499.sync.editors import Opened, Reporter, opened_in
+from bench61499.sync.store import FileRevision, Store, record
 
 PATIENCE = 60.0
 CAN = {"workspace": {"applyEdit": True, "workspaceEdit": {"documentChanges": True}}}
 A = TEXT.format(name="A")
+HOT, HOTTER = A.replace(":= 0", ":= 1"), A.replace(":= 0", ":= 2")
 CHANGED = r"A was changed by session \d+ \(commit \d+\) \d+ s ago; you are session \d+"
 
 
@@ -140,14 +148,17 @@ class OneFolderTest(InFolder):
         self.await_folder(A=f"// one\n{A}")
         until(lambda: f"A.fb: written: revision 2 by your editor (session {its.caller})\n" in self.kept.said(), PATIENCE)
 
-    def test_a_host_that_is_started_again_with_an_older_text(self) -> None:
-        """What the editor and the former workbench had in common is not what the older text comes from."""
+    def test_a_host_that_is_started_again_with_a_former_text(self) -> None:
+        """What the editor and the former workbench had in common says nothing of it: the user is asked whether somebody has gone back to it."""
         self.type(f"// one\n{A}")
         self.save(f"// one\n{A}")
         self.await_folder(A=f"// one\n{A}")
         until(lambda: any(it.common == f"// one\n{A}" for it in opened_in(self.kept.folder / ".bench61499").values()), PATIENCE)
         time.sleep(1)  # The `sync` has found that all is the same.
         self.start_again()
+        until(self.kept.conflicts, PATIENCE)
+        self.assertEqual((self.team(), self.file.read_text()), ({"A": A}, f"// one\n{A}"))
+        self.kept.conflicts()[0].unlink()
         self.await_folder(A=f"// one\n{A}")
         self.assertEqual(self.kept.said().count("A.fb: written"), 1)
 
@@ -173,6 +184,114 @@ class OneFolderTest(InFolder):
         self.assertEqual(self.kept.end(signal.SIGINT), 130)
         self.assertEqual(run("sync", self.kept.folder, "--connect", f":{self.host.port}", "--pull").returncode, 0)
         self.assertEqual(self.file.read_text(), f"// one\n{A}")
+
+
+class AloneTest(InFolder):
+    """An editor in a folder that a `sync` has kept, and keeps again later: what the editor has put or taken meanwhile is known then."""
+
+    def setUp(self) -> None:
+        super().setUp()
+        self.host = Host("--open")
+        self.addCleanup(self.host.end)
+        self.file = self.write("one/A.fb", A)
+        self.sync("--push")
+        self.colleague: Session = self.enterContext(self.host.session())
+
+    def sync(self, *words: str) -> CompletedProcess[str]:
+        return run("sync", self.file.parent, "--connect", f":{self.host.port}", *words)
+
+    def edit(self, text: str) -> Editor:
+        """Has an editor save a text, which is the workbench's then."""
+        editor = Editor("--connect", f":{self.host.port}")
+        self.addCleanup(editor.process.kill)
+        editor.start(self.file.parent, CAN)
+        editor.open(self.file)
+        editor.await_codes(A=[])
+        editor.change(self.file, text)
+        self.file.write_text(text)
+        editor.save(self.file)
+        self.await_text(text)
+        return editor
+
+    def await_text(self, text: str) -> None:
+        until(lambda: team_texts(self.colleague) == {"A": text}, PATIENCE)
+
+    def go_back(self) -> None:
+        self.colleague.commit([Put("A", self.colleague.revision("A"), A)])
+
+    def start_again(self) -> None:
+        self.host.end()
+        self.host.start()
+        self.colleague = self.enterContext(self.host.session())
+
+    def texts(self) -> tuple[str, str]:
+        """The text of the file, and that of the workbench."""
+        return self.file.read_text(), self.colleague.text("A").text
+
+    def test_a_colleague_goes_back_to_the_text_before(self) -> None:
+        self.edit(HOT).close()
+        self.go_back()
+        ran = self.sync("--pull", "--push")
+        self.assertEqual((ran.returncode, ran.stderr, self.texts()), (0, "", (A, A)))
+
+    def test_a_colleague_goes_back_to_it_before_it_is_saved(self) -> None:
+        editor = self.edit(HOT)
+        editor.change(self.file, HOTTER, 3)
+        self.await_text(HOTTER)
+        self.colleague.commit([Put("A", self.colleague.revision("A"), HOT)])
+        editor.await_told("A.fb", (3, CHANGED))
+        self.file.write_text(HOTTER)
+        editor.save(self.file)
+        editor.close()
+        ran = self.sync("--pull", "--push")
+        self.assertEqual((ran.returncode, ran.stderr, self.texts()), (0, "", (HOT, HOT)))
+
+    def test_a_host_that_is_started_again(self) -> None:
+        """Whether a colleague went back to the text before, nobody can tell."""
+        self.edit(HOT).close()
+        self.start_again()
+        self.colleague.commit([Put("A", 0, A)])
+        ran = self.sync("--pull", "--push")
+        self.assertEqual((ran.returncode, ran.stderr, self.texts()), (1, "", (HOT, A)))
+        self.assertEqual(self.file.with_name("A.fb.theirs").read_text(), A)
+
+    def test_an_editor_that_is_alone_with_a_host_that_was_started_again(self) -> None:
+        """What it had in common with the new workbench is known, so that it is no question who has changed what."""
+        self.start_again()
+        self.edit(HOT).close()
+        self.go_back()
+        ran = self.sync("--pull", "--push")
+        self.assertEqual((ran.returncode, ran.stderr, self.texts()), (0, "", (A, A)))
+
+    def test_what_a_sync_has_recorded_later_stays(self) -> None:
+        """Also if the editor comes after it with what it knew before."""
+        workbench = self.colleague.status().workbench
+        self.assertTrue(record(self.state, workbench, {"A": FileRevision("A.fb", 5, HOT)}, lambda _: True))
+        self.assertTrue(record(self.state, workbench, {"A": FileRevision("A.fb", 4, A), "B": FileRevision("B.fb", 4, A)}, lambda unit: unit != "B"))
+        store = Store(self.file.parent)
+        self.addCleanup(store.close)
+        self.assertEqual((store.common, store.was_former("A", A)), ({"A": FileRevision("A.fb", 5, HOT)}, True))
+        self.assertFalse(record(self.state, workbench, {"A": FileRevision("A.fb", 6, A)}, lambda _: True))
+
+    @property
+    def state(self) -> Path:
+        return self.file.parent / ".bench61499"
+
+    def test_a_sync_that_begins_meanwhile_waits(self) -> None:
+        """An editor records within moments."""
+        lock = os.open(self.state / "lock", os.O_RDWR)
+        fcntl.flock(lock, fcntl.LOCK_SH)
+        threading.Timer(0.5, os.close, [lock]).start()
+        self.assertEqual(self.sync("--push").returncode, 0)
+
+    def test_a_state_from_elsewhere_is_left_alone(self) -> None:
+        """An editor goes on, and writes nothing there."""
+        state = self.state / "state.sqlite"
+        with closing(sqlite3.connect(state)) as tables:
+            tables.executescript("DROP TABLE common; CREATE VIEW common AS SELECT 1")
+        content = state.read_bytes()
+        self.edit(HOT).close()
+        self.assertEqual(state.read_bytes(), content)
 
 
 class ReporterTest(InFolder):

@@ -140,7 +140,7 @@ def replace(session: Session, snapshot: Snapshot, units: list[Unit], is_mirror: 
 
 
 def last_common(paths: Iterable[Path], workbench: str) -> dict[str, str]:
-    """The texts that the folders of these paths last had in common with this workbench, as `sync` has recorded them; none if it never ran there, or is at work."""
+    """The texts that the folders of these paths last had in common with this workbench, as `sync` and editors have recorded them; none if it never ran there, or is at work."""
     states = {state for path in paths for state in _states_above(path.absolute())}
     return {unit: text for state in sorted(states) for unit, text in _common_of(state, workbench)}
 
@@ -153,8 +153,8 @@ def _states_above(path: Path) -> Iterator[Path]:
 def _common_of(state: Path, workbench: str) -> list[tuple[str, str]]:
     try:
         with closing(sqlite3.connect(f"{state.as_uri()}?mode=ro", uri=True, timeout=0)) as tables:
-            if not is_of_sync(tables) or tables.execute("SELECT identity FROM workbench LIMIT 2").fetchall() != [(workbench,)]:
+            if not is_of_sync(tables):
                 return []
-            return tables.execute(f"SELECT unit, text FROM common WHERE revision > 0 LIMIT {UNITS_LIMIT}").fetchall()
+            return tables.execute(f"SELECT unit, text FROM common WHERE workbench = ? AND revision > 0 LIMIT {UNITS_LIMIT}", (workbench,)).fetchall()
     except sqlite3.Error:
         return []

@@ -12,7 +12,7 @@ from bench61499 import Key, Session
 from bench61499.language.plant import Plant
 from bench61499.lsp.asking import Asking
 from bench61499.lsp.choices import Choices, Differing
-from bench61499.lsp.commits import News, Wanted
+from bench61499.lsp.commits import ABSENT, News, Wanted
 from bench61499.lsp.diagnoses import taken, whose
 from bench61499.lsp.documents import Diagnostic, Document, path_of
 from bench61499.lsp.offers import Offers, Vanished
@@ -22,6 +22,7 @@ from bench61499.lsp.sources import Sources
 from bench61499.lsp.talk import Talk
 from bench61499.lsp.teamtalk import TeamTalk
 from bench61499.sync.editors import Opened, Reporter
+from bench61499.sync.recorder import Noted, Recorder
 
 PIECE = 0.005
 """Seconds for which files and texts are read, and files that are not open are shown, before the next message is looked for."""
@@ -51,7 +52,7 @@ class Checking:
         self.choices = Choices(self, self.asking)
         self._offers = Offers(self.asking, self._is_open, self.choices.expect)
         self._vanished = Vanished(self.asking, self._release)
-        self._reporter = Reporter()
+        self._reporter, self._recorder = Reporter(), Recorder()
         self._wanted = self._passed = Wanted()
         self._is_dirty = False
         self._insisted: set[Path] = set()
@@ -100,8 +101,9 @@ class Checking:
 
     def save(self, path: Path) -> None:
         """The user has saved a document: its text is to be the one that the workbench has."""
-        if path in self._sources.documents:
+        if document := self.document(path):
             self._insisted.add(path)
+            self._record(path, document.text)
         self._quiet_until = 0.0
         self.refresh_files()
 
@@ -164,6 +166,7 @@ class Checking:
         """Ends the workbench, with what it is doing."""
         self._talk.close()
         self._reporter.close()
+        self._recorder.close()
 
     def _report_opened(self) -> None:
         """Reports what is open to a `sync` of the folder, if there is one: it leaves to the editor what is not saved, as that is committed from here."""
@@ -173,6 +176,14 @@ class Checking:
                 it = self._pages.units.get(unit)
                 opened[path] = Opened(unit, self._sources.is_unsaved(path), it.common if it else None, session)
         self._reporter.report(opened)
+
+    def _record(self, path: Path, saved: str | None = None) -> None:
+        """Records which text of the workbench a file comes from: the one that both have, or the last one that both had if the user has saved a text."""
+        unit, source, workbench = self._unit_of(path), self._sources.source(path), self._pages.workbench
+        it = self._pages.units.get(unit, ABSENT) if unit else ABSENT
+        text = source.text if source and saved is None else saved
+        if unit and workbench and it.revision and it.common is not None and text is not None and (saved is not None or it.text == it.common == text):
+            self._recorder.note(path, Noted(unit, text, it.common, it.revision, workbench))
 
     # Files
 
@@ -308,6 +319,7 @@ class Checking:
         for unit, path in found.items():
             if it := self._pages.units.get(unit):
                 self._offers.note(path, unit, it, self._wanted.texts.get(unit))
+                self._record(path)
         self._show({*found.values(), *self.plant.skipping(news.units)})
 
     def _drop_passed(self) -> None:

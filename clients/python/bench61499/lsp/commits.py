@@ -66,6 +66,7 @@ class News:
 
     `refused` are the units whose texts were not put, as somebody else had put another one meanwhile. It `is_brought` if all that was wanted was
     looked at, and committed as far as it was to be; what was known before is forgotten if it `is_other`, of a workbench that was started again.
+    `workbench` is the identity of one whose units are known with their texts.
     """
 
     units: dict[str, Unit] = field(default_factory=dict)
@@ -74,6 +75,7 @@ class News:
     refused: set[str] = field(default_factory=set)
     is_brought: bool = False
     is_other: bool = False
+    workbench: str = ""
 
 
 class Committed(ABC):

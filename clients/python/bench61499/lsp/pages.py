@@ -24,7 +24,8 @@ LEAST_AGE = 5.0
 
 
 class Pages:
-    """What there is to show. `units` and `faults` are what is known of the workbench; there is `trouble` if nothing is known now. `caller` is the number of this editor's session.
+    """What there is to show. `units` and `faults` are what is known of the workbench, whose identity is `workbench` if it gives texts; there is `trouble` if nothing is known now.
+    `caller` is the number of this editor's session.
 
     A workbench that `gives_texts` is compared with the texts here; one that is `shared` gets none with marked lines of a merge. It `relates` faults to other places if the editor can show that.
     """
@@ -33,7 +34,7 @@ class Pages:
         self._sources, self._shared = sources, shared
         self.units: dict[str, Unit] = {}
         self.faults: dict[str, Faults | None] = {}
-        self.trouble, self.caller = "", 0
+        self.workbench, self.trouble, self.caller = "", "", 0
         self.gives_texts = self.relates = False
         self._found: dict[Path, list[Diagnostic]] = {}
         self._others: dict[Path, list[Diagnostic]] = {}
@@ -44,6 +45,7 @@ class Pages:
         if news.is_other:
             self.units.clear()
             self.faults.clear()
+        self.workbench = news.workbench
         for unit in news.units:
             self.faults.pop(unit, None)
         self.units |= news.units

@@ -44,6 +44,9 @@ class TeamTexts(Committed):
         """Whether all units are known with their texts."""
         return bool(self._workbench)
 
+    def take_news(self) -> TurnNews:
+        return replace(super().take_news(), workbench=self._workbench)
+
     def turn(self, wanted: Wanted, told: Iterable[News], is_to_commit: bool) -> None:
         """Takes what the mirror has told, compares it with the texts here, and commits what is to be put."""
         is_same = wanted.texts is self._wanted.texts and wanted.kept == self._wanted.kept

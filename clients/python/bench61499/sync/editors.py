@@ -44,7 +44,7 @@ class Reporter:
         """Reports all that is open now. If that can't be written nothing is reported."""
         found: defaultdict[Path, dict[str, Opened]] = defaultdict(dict)
         for path, it in opened.items():
-            if folder := _kept_folder(path):
+            if folder := kept_folder(path):
                 found[folder][str(path.relative_to(folder))] = it
         for folder in self._reported.keys() | found.keys():
             if self._reported.get(folder, {}) != found[folder]:
@@ -70,7 +70,7 @@ class Reporter:
         os.ftruncate(number, len(line))
 
 
-def _kept_folder(path: Path) -> Path | None:
+def kept_folder(path: Path) -> Path | None:
     """The folder that has a file and is kept by a `sync`, if any."""
     return next((it for it in path.parents if (it / NAME / STATE).is_file()), None)
 

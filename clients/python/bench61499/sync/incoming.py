@@ -149,13 +149,15 @@ class Incoming:
         now = FileRevision(name, version.revision, text)
         before = self._store.conflicts.get(unit)
         if before and before.text == text:
+            self._disputed |= {unit: now} if before != now else {}
             return
         if before:
             self._take_away(unit, before)
         self._put_beside(unit, name, text)
         self._disputed[unit] = now
         beside = f"{name}{BESIDE}"
-        words = f" with revision {version.revision}{by}: that is {beside} now; edit {name}, and delete {beside} to commit it"
+        earlier = ", which this folder had before its text: somebody may have gone back to it" if self._store.was_former(unit, text) else ""
+        words = f" with revision {version.revision}{by}{earlier}: that is {beside} now; edit {name}, and delete {beside} to commit it"
         self._report.did(Step.CONFLICT, name, words)
 
     def _put_beside(self, unit: str, name: str, text: str) -> None:

@@ -23,7 +23,7 @@ FEW = 3
 AGAIN = 5.0
 """Seconds after which what failed is tried again."""
 NOT_HERE = 0
-"""The revision of a text that was common with another workbench, while this one has had no text of the unit."""
+"""The revision of a text that was common with another workbench, while this one has had no text of the unit, or one that the folder had before that."""
 LEFT = "is being edited, and left to its editor until it is saved"
 SENT = Step.PUT, Step.REMOVE
 
@@ -62,6 +62,7 @@ class Keeper:
         self._ended: dict[str, str] = {}
         self._failed: set[str] = set()
         self._next_try = 0.0
+        self._met = ""
 
     def look(self, at_once: bool = False) -> None:
         """Sees what was saved, also what may still be being written if it is `at_once`. Raises `Misuse` if the folder can't be read."""
@@ -100,13 +101,13 @@ class Keeper:
             return False
         if not self._ways.is_once:
             self._report.connected(self._team.session)
-        if self._team.workbench != self._store.identity:
+        if self._team.workbench != self._met:
             self._meet(self._team.workbench)
         if self._team.units - self._units.files.keys():
             self.look()  # Where an editor commits what it saves, their files are there already.
         units = self._taken()
         versions = {unit: self._team.version(unit) for unit in sorted(units)}
-        if self._team.workbench != self._store.identity:  # It was lost meanwhile, and what was known of it.
+        if self._team.workbench != self._met:  # It was lost meanwhile, and what was known of it.
             self._dirty |= units
             return False
         known = {unit: version for unit, version in versions.items() if version is not None}
@@ -153,27 +154,36 @@ class Keeper:
         self._next_try = time.monotonic() + AGAIN
 
     def _meet(self, identity: str) -> None:
-        """Begins with another workbench. Its revisions say nothing, and a unit that it lacks was not removed. A text that was replaced here is an older one."""
+        """Begins with a workbench. Of texts that were common with another one its revisions say nothing, and a unit that it lacks was not removed."""
         store = self._store
+        is_other = store.identity not in ("", identity)
         versions = {unit: self._team.version(unit) or Version(0) for unit in self._all()} if store.identity else {}
         if self._team.workbench != identity:  # It was lost meanwhile.
             return
-        if store.identity:
+        if is_other:
             self._report.say("the host was started again: the texts of its workbench are compared with the files")
             self._bases, self._ended = {}, self._ended | _commons(self._opened())  # These texts were common with the former one.
         with store.together():
+            if store.identity != identity:
+                store.take_back(list(store.sent))
+                store.meet(identity)
+                for unit, theirs in store.conflicts.items():
+                    store.dispute(unit, replace(theirs, revision=NOT_HERE))
             for unit, version in versions.items():
-                self._compare(unit, version)
-            store.take_back(list(store.sent))
-            store.meet(identity)
+                if not store.is_of_this(unit):
+                    self._compare(unit, version)
+        self._met = identity
         self._dirty |= self._all()
 
     def _compare(self, unit: str, version: Version) -> None:
+        """Finds what of a text that was common with another workbench counts in this one."""
         common = self._store.common.get(unit)
-        if version.text is None:
-            self._store.found(unit, replace(common, revision=NOT_HERE) if common else None)
-        elif self._store.was_former(unit, version.text) and not (common and common.text == version.text):
-            self._store.found(unit, FileRevision(common.file if common else f"{unit}.fb", version.revision, version.text))
+        if not common:
+            return
+        if version.text == common.text:
+            self._store.found(unit, replace(common, revision=version.revision))
+        elif version.text is None or self._store.was_former(unit, version.text):
+            self._store.found(unit, replace(common, revision=NOT_HERE))
 
     # Decisions
 
@@ -183,7 +193,13 @@ class Keeper:
             with self._store.together():
                 for unit in unanswered:
                     self._find_out(unit, versions[unit])
-        return {unit: self._decide(unit, version) for unit, version in versions.items()}
+        decisions = {unit: self._decide(unit, version) for unit, version in versions.items()}
+        return {unit: it for unit, it in decisions.items() if it.step not in SENT or not self._is_in_question(unit)}
+
+    def _is_in_question(self, unit: str) -> bool:
+        """Whether a file conflicts with a text of a former workbench: a colleague may still have that text, and the user has not answered yet."""
+        theirs = self._store.conflicts.get(unit)
+        return theirs is not None and theirs.revision == NOT_HERE and theirs.text != self._here(unit)
 
     def _find_out(self, unit: str, version: Version) -> None:
         """Whether a commit was made to which no answer came."""
@@ -196,16 +212,12 @@ class Keeper:
             self._store.take_back([unit])
 
     def _decide(self, unit: str, version: Version) -> Decision:
-        here, common, base = self._here(unit), self._common(unit, version.text), self._bases.pop(unit, None)
-        is_saved = here not in (None, common) and version.text is not None  # By an editor, perhaps, that did not have the text of the file.
-        return decide(here, version.text, base if is_saved and base is not None else common)
-
-    def _common(self, unit: str, there: str | None) -> str | None:
-        """The text that both had last. Another workbench that lacked the unit has none of it: where somebody has put one since, that one is newer, unless it is known to be older."""
-        common = self._store.common.get(unit)
-        if common and common.revision == NOT_HERE and (there is None or there != common.text and self._store.was_former(unit, there)):
-            return there
-        return common.text if common else None
+        here, there, base, common = self._here(unit), version.text, self._bases.pop(unit, None), self._store.common.get(unit)
+        if common and common.revision == NOT_HERE and (there is None or self._store.was_former(unit, there)):
+            return decide(here, there, None)
+        text = common.text if common else None
+        is_saved = here not in (None, text) and there is not None  # By an editor, perhaps, that did not have the text of the file.
+        return decide(here, there, base if is_saved and base is not None else text)
 
     def _here(self, unit: str) -> str | None:
         name = self._units.files.get(unit)

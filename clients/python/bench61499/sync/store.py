@@ -5,7 +5,8 @@ import errno
 import fcntl
 import os
 import sqlite3
-from collections.abc import Iterator, Mapping
+import time
+from collections.abc import Callable, Iterator, Mapping
 from contextlib import closing, contextmanager
 from dataclasses import astuple, dataclass
 from datetime import UTC, datetime
@@ -25,7 +26,7 @@ _NAMING = bytes.fromhex("d9d505f920a163d7")
 _FORM = 1
 _TABLES = """
 CREATE TABLE IF NOT EXISTS workbench (identity TEXT NOT NULL);
-CREATE TABLE IF NOT EXISTS common (unit TEXT PRIMARY KEY, file TEXT NOT NULL, revision INTEGER NOT NULL, text TEXT NOT NULL);
+CREATE TABLE IF NOT EXISTS common (unit TEXT PRIMARY KEY, file TEXT NOT NULL, revision INTEGER NOT NULL, text TEXT NOT NULL, workbench TEXT NOT NULL);
 CREATE TABLE IF NOT EXISTS sent (unit TEXT PRIMARY KEY, text TEXT);
 CREATE TABLE IF NOT EXISTS written (unit TEXT PRIMARY KEY, content TEXT NOT NULL, file TEXT NOT NULL, revision INTEGER NOT NULL, text TEXT NOT NULL);
 CREATE TABLE IF NOT EXISTS conflict (unit TEXT PRIMARY KEY, file TEXT NOT NULL, revision INTEGER NOT NULL, text TEXT NOT NULL);
@@ -34,6 +35,9 @@ CREATE TABLE IF NOT EXISTS former (unit TEXT, digest BLOB, PRIMARY KEY (unit, di
 _SCHEMA = "SELECT name, sql FROM sqlite_master WHERE sql IS NOT NULL LIMIT 100"
 _LONGEST = 1_000_000
 """Bytes of a value."""
+_LOCK = "lock"
+_RECORDED_IN = 5.0
+"""Seconds in which a language server has recorded what it has to, at most."""
 
 
 @dataclass(frozen=True)
@@ -48,8 +52,9 @@ class FileRevision:
 class Store:
     """The folder `.bench61499`, for one process at a time. What is recorded is there after a kill, all of one `together` or nothing.
 
-    `common` are the texts that were last common; `sent` those that are being committed, None for a removal; `written` the contents that files are being given,
-    each with the text that is common then; `conflicts` the texts of the workbench that stand beside the files.
+    `identity` is that of the last workbench; `common` are the texts that were last common with it, or with a former one; `sent` those that are being committed,
+    None for a removal; `written` the contents that files are being given, each with the text that is common then; `conflicts` the texts of the workbench that
+    stand beside the files.
     """
 
     def __init__(self, folder: Path):
@@ -57,15 +62,14 @@ class Store:
         self.folder = folder / NAME
         try:
             self._prepare()
-            self._lock = _locked(self.folder / "lock")
+            self._lock = _locked(self.folder / _LOCK)
             self._tables = sqlite3.connect(self.folder / STATE, isolation_level=None)
             self._open()
         except (OSError, sqlite3.Error) as error:
             raise Misuse(f"{self.folder}: can't be used: {getattr(error, 'strerror', None) or error}") from error
 
     def _prepare(self) -> None:
-        refuse_links(self.folder)
-        refuse_naming(self.folder / _JOURNAL)
+        refuse_foreign(self.folder)
         for folder in (self.folder, self.drafts, self.kept):
             folder.mkdir(exist_ok=True)
         ignored = self.folder / ".gitignore"
@@ -73,15 +77,10 @@ class Store:
             ignored.write_text("*\n")
 
     def _open(self) -> None:
-        if not is_of_sync(self._tables):
-            raise Misuse(f"{self.folder / STATE}: has other tables than those of sync, and may come from elsewhere; remove it")
-        self._tables.execute("PRAGMA synchronous = NORMAL")
-        form = self._tables.execute("PRAGMA user_version").fetchone()[0]
-        if form > _FORM:
-            raise Misuse(f"{self.folder}: was written by a later version of sync")
-        self._tables.executescript(f"{_TABLES} PRAGMA user_version = {_FORM};")
+        _prepare_tables(self._tables, self.folder)
         self.identity = next(iter(self._rows("SELECT identity FROM workbench")), ("",))[0]
         self.common = self._file_revisions("common")
+        self._workbenches: dict[str, str] = dict(self._rows("SELECT unit, workbench FROM common"))
         self.conflicts = self._file_revisions("conflict")
         self.sent: dict[str, str | None] = {unit: text for unit, text in self._rows("SELECT unit, text FROM sent")}
         contents = {unit: content for unit, content in self._rows("SELECT unit, content FROM written")}
@@ -135,24 +134,28 @@ class Store:
 
     def agree(self, unit: str, now: FileRevision | None) -> None:
         """The folder and the workbench have this text, or no such unit; nothing is in question any more."""
-        former = self.common.get(unit)
-        if former and (now is None or former.text != now.text):
-            self._tables.execute("INSERT OR IGNORE INTO former VALUES (?, ?)", (unit, _digest(former.text)))
         self.found(unit, now)
         self.settle(unit)
 
     def found(self, unit: str, now: FileRevision | None) -> None:
-        """This text, or none, is what both are taken to come from; another one that was common does not count as an older one."""
-        self.common.pop(unit, None)
+        """This text, or none, is what both come from; another one that was common is a former one."""
+        former = self.common.pop(unit, None)
         if now:
-            self.common[unit] = now
-            self._tables.execute("INSERT OR REPLACE INTO common VALUES (?, ?, ?, ?)", (unit, now.file, now.revision, now.text))
-        else:
+            self.common[unit], self._workbenches[unit] = now, self.identity
+            put_common(self._tables, unit, now, self.identity, former.text if former else now.text)
+        elif former:
+            put_former(self._tables, unit, former.text)
             self._tables.execute("DELETE FROM common WHERE unit = ?", (unit,))
+
+    def is_of_this(self, unit: str) -> bool:
+        """Whether the common text of a unit was common with this workbench."""
+        return unit in self.common and self._workbenches[unit] == self.identity
 
     def was_former(self, unit: str, text: str) -> bool:
         """Whether this text was common once, and another one has come in its place."""
-        return bool(self._tables.execute("SELECT 1 FROM former WHERE unit = ? AND digest = ?", (unit, _digest(text))).fetchone())
+        common = self.common.get(unit)
+        is_present = common is not None and common.text == text
+        return not is_present and bool(self._tables.execute("SELECT 1 FROM former WHERE unit = ? AND digest = ?", (unit, _digest(text))).fetchone())
 
     def send(self, texts: Mapping[str, str | None]) -> None:
         self.sent.update(texts)
@@ -188,6 +191,66 @@ class Store:
             raise OSError(errno.ELOOP, f"{link} is a link, and has to be none")
         moment = datetime.now(UTC).strftime("%Y%m%dT%H%M%S.%f")
         return folder / f"{moment}-{words}"
+
+
+def record(folder: Path, workbench: str, texts: Mapping[str, FileRevision], is_still: Callable[[str], bool]) -> bool:
+    """Records in a `.bench61499` the texts by unit that files and a workbench have in common, for a `sync` that keeps the folder later; tells whether that is done.
+
+    A `sync` that keeps it now sees them by itself, and what was recorded with a later revision stays. `is_still` is asked for each unit of which another
+    text is recorded. Raises `Misuse`, `OSError` and `sqlite3.Error`.
+    """
+    refuse_foreign(folder)
+    lock = os.open(folder / _LOCK, os.O_RDWR | os.O_CREAT | os.O_NOFOLLOW | os.O_CLOEXEC, 0o666)
+    try:
+        fcntl.flock(lock, fcntl.LOCK_SH | fcntl.LOCK_NB)
+        with closing(sqlite3.connect(folder / STATE, isolation_level=None)) as tables:
+            _prepare_tables(tables, folder)
+            tables.execute("BEGIN IMMEDIATE")
+            for unit, it in texts.items():
+                _record_one(tables, unit, it, workbench, is_still)
+            tables.execute("COMMIT")
+    except BlockingIOError:
+        return False
+    finally:
+        os.close(lock)
+    return True
+
+
+def _record_one(tables: sqlite3.Connection, unit: str, now: FileRevision, workbench: str, is_still: Callable[[str], bool]) -> None:
+    known = tables.execute("SELECT text, revision, workbench FROM common WHERE unit = ?", (unit,)).fetchone()
+    text, revision, its = known or (now.text, 0, "")
+    is_new = its != workbench or revision < now.revision or revision == now.revision and text != now.text
+    if is_new and is_still(unit):
+        put_common(tables, unit, now, workbench, text)
+
+
+def put_common(tables: sqlite3.Connection, unit: str, now: FileRevision, workbench: str, before: str) -> None:
+    """Records a text that is common with a workbench; the one `before` is a former one if it is another one."""
+    if before != now.text:
+        put_former(tables, unit, before)
+    tables.execute("INSERT OR REPLACE INTO common VALUES (?, ?, ?, ?, ?)", (unit, *astuple(now), workbench))
+
+
+def put_former(tables: sqlite3.Connection, unit: str, text: str) -> None:
+    """Records a text that was common."""
+    tables.execute("INSERT OR IGNORE INTO former VALUES (?, ?)", (unit, _digest(text)))
+
+
+def _prepare_tables(tables: sqlite3.Connection, folder: Path) -> None:
+    """Raises `Misuse` if the tables are not those of `sync`."""
+    if not is_of_sync(tables):
+        raise Misuse(f"{folder / STATE}: has other tables than those of sync, and may come from elsewhere; remove it")
+    tables.execute("PRAGMA synchronous = NORMAL")
+    form = tables.execute("PRAGMA user_version").fetchone()[0]
+    if form > _FORM:
+        raise Misuse(f"{folder}: was written by a later version of sync")
+    tables.executescript(f"{_TABLES} PRAGMA user_version = {_FORM};")
+
+
+def refuse_foreign(folder: Path) -> None:
+    """Raises `Misuse` if a `.bench61499` has a link or a journal that can't be of `sync`."""
+    refuse_links(folder)
+    refuse_naming(folder / _JOURNAL)
 
 
 def refuse_links(folder: Path) -> None:
@@ -230,13 +293,22 @@ def _digest(text: str) -> bytes:
 
 def _locked(file: Path) -> int:
     """A lock that ends with the process, and has its number. Raises `Misuse` if another process has it."""
-    number = os.open(file, os.O_RDWR | os.O_CREAT, 0o666)
-    try:
-        fcntl.flock(number, fcntl.LOCK_EX | fcntl.LOCK_NB)
-    except BlockingIOError:
-        holder = os.read(number, 20).decode(errors="replace").strip()
-        os.close(number)
-        raise Misuse(f"{file.parent.parent}: another sync keeps it, process {holder}") from None
+    number, end = os.open(file, os.O_RDWR | os.O_CREAT, 0o666), time.monotonic() + _RECORDED_IN
+    while not _is_taken(number, fcntl.LOCK_EX):
+        if not _is_taken(number, fcntl.LOCK_SH) or time.monotonic() > end:
+            holder = os.read(number, 20).decode(errors="replace").strip()
+            os.close(number)
+            raise Misuse(f"{file.parent.parent}: another sync keeps it, process {holder}")
+        fcntl.flock(number, fcntl.LOCK_UN)
+        time.sleep(0.01)  # A language server is recording something.
     os.ftruncate(number, 0)
     os.write(number, f"{os.getpid()}\n".encode())
     return number
+
+
+def _is_taken(number: int, lock: int) -> bool:
+    try:
+        fcntl.flock(number, lock | fcntl.LOCK_NB)
+    except BlockingIOError:
+        return False
+    return True
