@@ -172,6 +172,46 @@ class KnowingTest(ComparingTest):
         editor.await_told("A.fb")
         self.assertEqual(self.text(), f"{GOOD} ")
 
+    def test_who_puts_a_unit_again_is_named(self) -> None:
+        """Also to the one who does it."""
+        editor = self.opened(GOOD)
+        session = self.other.status().session
+        self.other.commit([Remove("A", 1)])
+        editor.await_told("A.fb", (3, r"A was removed by session \d+ \(commit 2\) \d+ s ago; you are session \d+"))
+        self.do(editor, PUT)
+        again = f"bench61499: A is in the workbench again: {{}} has put it (commit {{}}), after session {session} had removed it (commit {{}})."
+        self.assertEqual(editor.await_message(), again.format("this editor", 3, 2))
+        self.other.commit([Remove("A", 3)])
+        with Session.connect("127.0.0.1", self.port) as third:
+            third.commit([Put("A", 0, GOOD)])
+            self.assertEqual(editor.await_message(), again.format(f"session {third.status().session}", 5, 4))
+
+    def test_a_name_that_comes_and_goes_as_it_is_typed_is_no_news(self) -> None:
+        editor = self.opened(GOOD)
+        for version, name in enumerate(("AB", "A"), 2):
+            editor.change(self.file, GOOD.replace("A", name, 1), version)
+            while {it.unit for it in self.other.units().units} != {name}:
+                self.other.watch(self.other.status().calls, 10)
+        editor.ask("documentSymbol", self.file)
+        self.assertEqual(editor.messages, [])
+
+    def test_a_unit_that_was_removed_before_the_editor_started_is_not_put_again(self) -> None:
+        self.other.commit([Put("A", 0, GOOD), Put("C", 0, GOOD.replace("A", "C", 1))])
+        self.other.commit([Remove("A", 1)])
+        self.file.write_text(GOOD)
+        editor = self.started()
+        editor.open(self.file)
+        editor.await_told("A.fb", (3, rf"A was removed by session {self.other.status().session} \(commit 2\); you are session \d+"))
+        self.assertEqual(self.titles(editor), ["Put mine"])
+        self.write("B.fb", GOOD.replace("A", "B", 1))
+        editor.save(self.file)
+        while self.other.status().commits < 3:
+            self.other.watch(self.other.status().calls, 10)
+        self.assertEqual([it.unit for it in self.other.units().units], ["B", "C"])
+        self.do(editor, PUT)
+        editor.await_told("A.fb")
+        self.assertIn("A is in the workbench again: this editor has put it (commit 4)", editor.await_message())
+
     def test_a_type_that_somebody_else_has_removed_is_not_there(self) -> None:
         """Its file is, and has no fault."""
         self.write("B.fb", "FUNCTION_BLOCK B\n  FBS X : A; END_FBS\nEND_FUNCTION_BLOCK\n")
@@ -606,26 +646,45 @@ class StartedAgainTest(TeamTest):
             while not any(it.text == text for it in session.texts(["A"]).values()):
                 session.watch(session.status().calls, 0.1)
 
-    def start_again(self, text: str) -> None:
+    def start_again(self, change: Change) -> None:
         self.running.process.send_signal(signal.SIGSTOP)
         self.host.end()
         self.host.start()
         with self.host.session() as session:
-            session.commit([Put("A", 0, text)])
+            session.commit([change])
         self.running.process.send_signal(signal.SIGCONT)
 
     def test_a_file_that_nobody_has_touched_gets_the_later_text(self) -> None:
-        self.start_again(BAD)
+        self.start_again(Put("A", 0, BAD))
         asked = self.running.await_asked("workspace/applyEdit")
         (change,) = asked["params"]["edit"]["documentChanges"]
         self.assertEqual((edited(GOOD, change["edits"]), asked["params"]["label"]), (BAD, "The team's text of A"))
 
-    def test_a_text_that_is_known_to_be_older_is_named_and_not_taken(self) -> None:
+    def test_a_text_that_a_colleague_had_overtaken_is_not_put(self) -> None:
+        """The colleague has the later text, and comes again."""
+        self.running.open(self.file)
+        self.running.await_codes(A=[])
+        with self.host.session() as session:
+            session.commit([Put("A", session.revision("A"), BAD)])
+        self.running.await_told("A.fb", changed("A", 2))
+        self.running.change(self.file, f"{GOOD} ")
+        self.running.await_told("A.fb", changed("A", 2))
+        self.start_again(Put("C", 0, ""))
+        self.running.await_told("A.fb", (3, "A was changed by others before the host was started again, and is not there yet: they have the later text"))
+        with self.host.session() as session:
+            while (units := {it.unit for it in session.units().units}) != {"B", "C"}:
+                self.assertLessEqual(units, {"B", "C"})
+                session.watch(session.status().calls, 0.1)
+            session.commit([Put("A", 0, BAD)])
+        self.running.await_told("A.fb", changed("A", 3))
+
+    def test_a_former_text_is_named_and_not_taken(self) -> None:
+        """Its author may have gone back to it, or have been away."""
         self.file.write_text(BAD)
         self.running.notify("workspace/didChangeWatchedFiles", changes=[])
         self.await_text(BAD)
-        self.start_again(GOOD)
-        self.running.await_told("A.fb", (3, r"A differs from the team's text \(commit 1\), which is an older one"))
+        self.start_again(Put("A", 0, GOOD))
+        self.running.await_told("A.fb", (3, r"A differs from the team's text \(commit 1\), which this editor had before: somebody may have gone back to it"))
         time.sleep(CALM + 0.5)
         self.running.ask("documentSymbol", self.folder / "B.fb")
         self.assertEqual((self.running.asked, self.file.read_text()), ([], BAD))

@@ -575,6 +575,16 @@ class ConflictTest(KeeperTest):
         self.settle(other, one)
         self.assertEqual((one.team.caller("A"), other.team.caller("A")), (f" by session {other.team.session}", " by you"))
 
+    def test_who_has_put_a_unit_again(self) -> None:
+        """Who removed it is told that."""
+        one, _ = self.both()
+        one.file("A.fb").unlink()
+        self.settle(one)
+        with redirect_stdout(io.StringIO()) as said:
+            self.session.commit([Put("A", 0, HOT)])
+            self.settle(one)
+        self.assertEqual(said.getvalue(), f"A.fb: written: revision 3 by session {self.session.status().session}, after you had removed it\n")
+
     def test_marked_lines_are_not_committed(self) -> None:
         one, _ = self.both()
         marked = f"<<<<<<< mine\n{A}=======\n{A}>>>>>>> theirs\n"

@@ -144,6 +144,7 @@ class OneFolderTest(InFolder):
         until(lambda: "is being edited" in self.kept.said(), PATIENCE)
         with self.host.session() as session:
             its = next(it for it in session.watch(0).events if isinstance(it, Commit) and it.number == 2)
+        time.sleep(1)  # The `sync` has heard of the commit.
         self.editor.process.kill()
         self.await_folder(A=f"// one\n{A}")
         until(lambda: f"A.fb: written: revision 2 by your editor (session {its.caller})\n" in self.kept.said(), PATIENCE)
@@ -200,7 +201,7 @@ class AloneTest(InFolder):
     def sync(self, *words: str) -> CompletedProcess[str]:
         return run("sync", self.file.parent, "--connect", f":{self.host.port}", *words)
 
-    def edit(self, text: str) -> Editor:
+    def save(self, text: str) -> Editor:
         """Has an editor save a text, which is the workbench's then."""
         editor = Editor("--connect", f":{self.host.port}")
         self.addCleanup(editor.process.kill)
@@ -229,13 +230,13 @@ class AloneTest(InFolder):
         return self.file.read_text(), self.colleague.text("A").text
 
     def test_a_colleague_goes_back_to_the_text_before(self) -> None:
-        self.edit(HOT).close()
+        self.save(HOT).close()
         self.go_back()
         ran = self.sync("--pull", "--push")
         self.assertEqual((ran.returncode, ran.stderr, self.texts()), (0, "", (A, A)))
 
     def test_a_colleague_goes_back_to_it_before_it_is_saved(self) -> None:
-        editor = self.edit(HOT)
+        editor = self.save(HOT)
         editor.change(self.file, HOTTER, 3)
         self.await_text(HOTTER)
         self.colleague.commit([Put("A", self.colleague.revision("A"), HOT)])
@@ -248,7 +249,7 @@ class AloneTest(InFolder):
 
     def test_a_host_that_is_started_again(self) -> None:
         """Whether a colleague went back to the text before, nobody can tell."""
-        self.edit(HOT).close()
+        self.save(HOT).close()
         self.start_again()
         self.colleague.commit([Put("A", 0, A)])
         ran = self.sync("--pull", "--push")
@@ -258,7 +259,7 @@ class AloneTest(InFolder):
     def test_an_editor_that_is_alone_with_a_host_that_was_started_again(self) -> None:
         """What it had in common with the new workbench is known, so that it is no question who has changed what."""
         self.start_again()
-        self.edit(HOT).close()
+        self.save(HOT).close()
         self.go_back()
         ran = self.sync("--pull", "--push")
         self.assertEqual((ran.returncode, ran.stderr, self.texts()), (0, "", (A, A)))
@@ -290,7 +291,7 @@ class AloneTest(InFolder):
         with closing(sqlite3.connect(state)) as tables:
             tables.executescript("DROP TABLE common; CREATE VIEW common AS SELECT 1")
         content = state.read_bytes()
-        self.edit(HOT).close()
+        self.save(HOT).close()
         self.assertEqual(state.read_bytes(), content)
 
 

@@ -13,7 +13,7 @@ from bench61499.language.plant import Plant
 from bench61499.lsp.asking import Asking
 from bench61499.lsp.choices import Choices, Differing
 from bench61499.lsp.commits import ABSENT, News, Wanted
-from bench61499.lsp.diagnoses import taken, whose
+from bench61499.lsp.diagnoses import returned, taken, whose
 from bench61499.lsp.documents import Diagnostic, Document, path_of
 from bench61499.lsp.offers import Offers, Vanished
 from bench61499.lsp.pages import Pages
@@ -314,6 +314,8 @@ class Checking:
         if news.is_brought:
             self._drop_passed()
         self._tell_taken(sorted(lost))
+        for words in returned(news.returned, self._talk.caller):
+            self.asking.tell(INFO, words)
         self._report_opened()
         found = {unit: path for unit in news.units | news.faults if (path := self._sources.owners.get(unit))}
         for unit, path in found.items():

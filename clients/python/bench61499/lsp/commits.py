@@ -5,18 +5,18 @@ from abc import ABC, abstractmethod
 from collections.abc import Container, Iterable, Mapping
 from dataclasses import dataclass, field
 
-from bench61499 import UNITS_LIMIT, Change, Fault, NoSuchUnit, Put, Remove, Session, StaleBase, batches
+from bench61499 import UNITS_LIMIT, Change, Commit, Fault, NoSuchUnit, Put, Remove, Session, StaleBase, batches
 
 Faults = tuple[Fault, ...]
 
 
 @dataclass(frozen=True)
 class Author:
-    """Who made a commit, and when it was heard of, in seconds of the monotonic clock. `session` is 0 if nobody told."""
+    """Who made a commit, and when it was heard of, in seconds of the monotonic clock, or None if it was made before. `session` is 0 if nobody told."""
 
     session: int
     commit: int
-    heard: float
+    heard: float | None
 
 
 @dataclass(frozen=True)
@@ -24,8 +24,8 @@ class Unit:
     """A unit of the workbench: its revision, 0 if it is absent, and its text if that is known, be it that it was put from here.
 
     `is_changed` is of a unit that others have put or removed since it had the text of this editor, or since it was first seen from here;
-    `author` is then the one who did, if that is known. `common` is the last text that the workbench and this editor both had, if there was one. It `is_older`
-    if both had this text before the common one, and the author is not known: after a restart of a host somebody has put it who had no later one.
+    `author` is then the one who did, if that is known. `common` is the last text that the workbench and this editor both had, if there was one. It `is_former`
+    if both had this text before the common one, and the author is not known: after a restart of a host somebody has put it who had no later one, or went back to it.
     """
 
     revision: int
@@ -34,7 +34,7 @@ class Unit:
     is_ours: bool = True
     author: Author | None = None
     common: str | None = None
-    is_older: bool = False
+    is_former: bool = False
 
 
 ABSENT = Unit(0)
@@ -66,7 +66,8 @@ class News:
 
     `refused` are the units whose texts were not put, as somebody else had put another one meanwhile. It `is_brought` if all that was wanted was
     looked at, and committed as far as it was to be; what was known before is forgotten if it `is_other`, of a workbench that was started again.
-    `workbench` is the identity of one whose units are known with their texts.
+    `workbench` is the identity of one whose units are known with their texts. `returned` are units that one session has removed and another one has put again,
+    with both commits.
     """
 
     units: dict[str, Unit] = field(default_factory=dict)
@@ -76,6 +77,7 @@ class News:
     is_brought: bool = False
     is_other: bool = False
     workbench: str = ""
+    returned: dict[str, tuple[Commit, Commit]] = field(default_factory=dict)
 
 
 class Committed(ABC):

@@ -1,10 +1,11 @@
 """What an editor shows of a unit: its faults, or why they are not known."""
 from __future__ import annotations
 
-from collections.abc import Iterable
+from collections import defaultdict
+from collections.abc import Iterable, Mapping
 from itertools import accumulate
 
-from bench61499 import Fault, Places
+from bench61499 import Commit, Fault, Places
 from bench61499.language.explain import Explainer, Names
 from bench61499.language.fitting import fits
 from bench61499.language.merging import conflict_lines
@@ -104,11 +105,34 @@ def changed(unit: str, it: Unit, now: float, caller: int) -> str:
     """Who has changed a unit, and when, as far as that is known; `caller` is the number of this editor's session, which somebody else may have had before."""
     author = it.author
     if not author:
-        return f"{unit} differs from the team's text (commit {it.revision}), {'which is an older one' if it.is_older else 'and it is not known which is newer'}"
+        return _unsure(unit, it)
     what, who = "changed" if it.revision else "removed", f"session {author.session}" if author.session else "others"
     commit = f" (commit {author.commit})" if author.commit else ""
-    told = f"{unit} was {what} by {'an earlier ' * (caller == author.session > 0)}{who}{commit} {_age(now - author.heard)} ago"
+    age = f" {_age(now - author.heard)} ago" if author.heard is not None else ""
+    told = f"{unit} was {what} by {'an earlier ' * (caller == author.session > 0)}{who}{commit}{age}"
     return f"{told}; you are session {caller}" if caller and author.session else told
+
+
+def _unsure(unit: str, it: Unit) -> str:
+    """How a unit differs, if it is not known who has changed it."""
+    if not it.revision:
+        return f"{unit} was changed by others before the host was started again, and is not there yet: they have the later text"
+    why = "which this editor had before: somebody may have gone back to it" if it.is_former else "and it is not known which is newer"
+    return f"{unit} differs from the team's text (commit {it.revision}), {why}"
+
+
+def returned(its: Mapping[str, tuple[Commit, Commit]], caller: int) -> list[str]:
+    """Messages that units are there again that somebody had removed, each after both commits; one for all units of the same two."""
+    units = defaultdict(list)
+    for unit, commits in its.items():
+        units[commits].append(unit)
+    return [_returned(names, *commits, caller) for commits, names in units.items()]
+
+
+def _returned(units: list[str], removal: Commit, put: Commit, caller: int) -> str:
+    are, them = ("is", "it") if len(units) == 1 else ("are", "them")
+    who, other = ("this editor" if it.caller == caller else f"session {it.caller}" for it in (put, removal))
+    return f"{named(units)} {are} in the workbench again: {who} has put {them} (commit {put.number}), after {other} had removed {them} (commit {removal.number})."
 
 
 def _age(seconds: float) -> str:

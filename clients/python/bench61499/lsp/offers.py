@@ -47,7 +47,7 @@ class Offers:
 
     def note(self, path: Path, unit: str, it: Unit, text: str | None) -> None:
         """Takes note of what the workbench has of a unit whose file has a text."""
-        is_clean = it.is_changed and not it.is_older and it.text is not None and it.common is not None and it.common == text
+        is_clean = it.is_changed and not it.is_former and it.text is not None and it.common is not None and it.common == text
         if is_clean and path not in self._declined and not self._is_open(path) and self._asking.can("workspace", "applyEdit"):
             self._waiting[path] = _Offer(path, unit, it)
             self._due = time.monotonic() + CALM

@@ -107,7 +107,7 @@ class Pages:
     def _changed(self, path: Path, unit: str, it: Unit) -> str:
         """Who has changed a unit, and when; that is shown again as time goes by."""
         now = time.monotonic()
-        if it.author:
+        if it.author and it.author.heard is not None:
             self._ages[path] = now + max(LEAST_AGE, now - it.author.heard)
         return changed(unit, it, now, self.caller)
 

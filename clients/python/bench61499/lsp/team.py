@@ -8,6 +8,7 @@ from dataclasses import replace
 from bench61499 import Commit, Put
 from bench61499.language.mentions import Mentions, words_of
 from bench61499.language.merging import is_marked
+from bench61499.log.events import Place
 from bench61499.lsp.commits import ABSENT, Author, Committed, Faults, Unit, Wanted
 from bench61499.lsp.commits import News as TurnNews
 from bench61499.mirror import Came, Changed, Connected, Loaded, Mirror, News, NoKey, UnitChange, Version
@@ -38,6 +39,9 @@ class TeamTexts(Committed):
         self._early: set[str] = set()
         self._is_all = True
         self._run: dict[str, set[int]] = {}
+        self._removals: dict[str, Commit] = {}
+        self._overtaken_there: frozenset[str] = frozenset()
+        self._knows_removals = False
 
     @property
     def is_loaded(self) -> bool:
@@ -56,6 +60,8 @@ class TeamTexts(Committed):
         if not self.is_loaded:
             self._take_early((wanted.open.keys() - self._early) & wanted.texts.keys())
             return
+        if not self._knows_removals:
+            self._find_removals()
         for unit, text in wanted.agreed.items():
             self._set_common(unit, text)
         for unit in wanted.shut & wanted.texts.keys():
@@ -90,13 +96,17 @@ class TeamTexts(Committed):
             case Changed(commit, changes) if self.is_loaded:
                 for change in changes:
                     self._take_change(commit, change)
-                self._own.discard(commit.number if commit else 0)
+                if commit:
+                    self._own.discard(commit.number)
+                    self._follow_removals(commit)
             case Came("faults", unit, value) if self.is_loaded and unit not in self._untold:
                 self._take_faults(unit, value)
 
     def _forget(self) -> None:
-        """Nothing is known of the workbench any more, but the last texts that it and this editor both had."""
-        self._workbench = ""
+        """Nothing is known of the workbench any more, but the last texts that it and this editor both had, and which texts here others had overtaken."""
+        overtaken = (unit for unit, it in self._units.items() if it.is_changed and it.revision and it.author)
+        self._workbench, self._overtaken_there = "", self._overtaken_there.union(overtaken)
+        self._removals, self._knows_removals = {}, False
         self._units, self._faults, self._untold, self._run = {}, {}, {}, {}
         self._own, self._behind, self._early, self._under_way = set(), set(), set(), []
         self.news, self._is_all = TurnNews(is_other=True), True
@@ -107,6 +117,27 @@ class TeamTexts(Committed):
         self._faults = {unit: faults for unit, faults in self._mirror.values("faults").items() if isinstance(faults, tuple)}
         for unit, version in self._mirror.versions().items():
             self._set_theirs(unit, version, None)
+        for unit in self._overtaken_there - self._units.keys():
+            self._set(unit, Unit(0, None, True, False, None, self._common.get(unit)))
+        self._overtaken_there = frozenset()
+
+    def _find_removals(self) -> None:
+        """Finds who has removed units that have a text here, as far back as the host knows: they are not put again unasked."""
+        absent = {unit for unit in self._wanted.texts if unit not in self._units}
+        if absent:
+            with self._mirror.session(self._workbench) as session:
+                commits = Place().catch_up(session).commits
+            removals = {unit: it for it in commits for unit in it.removed if unit in absent}
+            for unit, it in removals.items():
+                self._removals[unit] = it
+                self._set(unit, Unit(0, None, True, False, Author(it.caller, it.number, None), self._common.get(unit)))
+        self._knows_removals = True
+
+    def _follow_removals(self, commit: Commit) -> None:
+        """Finds units that one session has removed and another one puts again."""
+        gone = {unit: self._removals.pop(unit) for unit in commit.put if unit in self._removals}
+        self.news.returned |= {unit: (it, commit) for unit, it in gone.items() if it.caller != commit.caller}
+        self._removals |= dict.fromkeys(commit.removed, commit)
 
     def _take_early(self, opened: set[str]) -> None:
         """Takes those of these open units that are there with the texts that they have here, before all is read, which takes longer. They wait for that if
@@ -153,9 +184,9 @@ class TeamTexts(Committed):
         is_ours = any(isinstance(it, Put) and (it.unit, it.text) == (unit, version.text) for it in self._under_way)
         number = commit.number if commit else version.revision
         author = Author(commit.caller if commit else 0, number, time.monotonic()) if commit or unit in self._units else None
-        is_older = not author and version.text != self._common.get(unit) and hash(version.text) in self._former.get(unit, ())
+        is_former = not author and version.text != self._common.get(unit) and hash(version.text) in self._former.get(unit, ())
         self._run[unit] = {hash(version.text)}
-        self._set(unit, Unit(version.revision, version.text, not is_ours, is_ours, author, self._common.get(unit), is_older))
+        self._set(unit, Unit(version.revision, version.text, not is_ours, is_ours, author, self._common.get(unit), is_former))
 
     def _take_faults(self, unit: str, value: Faults | NoKey | None) -> None:
         if isinstance(value, tuple):
@@ -199,7 +230,7 @@ class TeamTexts(Committed):
             if it.text == text:
                 if it.is_changed or it.common is not text:
                     self._agree(unit, text)
-                    self._set(unit, replace(it, text=text, is_changed=False, common=text, is_older=False))
+                    self._set(unit, replace(it, text=text, is_changed=False, common=text, is_former=False))
             elif it.is_changed == self._is_ahead(unit, it):
                 self._set(unit, replace(it, is_changed=not it.is_changed))
 

@@ -80,7 +80,7 @@ class Store:
         _prepare_tables(self._tables, self.folder)
         self.identity = next(iter(self._rows("SELECT identity FROM workbench")), ("",))[0]
         self.common = self._file_revisions("common")
-        self._workbenches: dict[str, str] = dict(self._rows("SELECT unit, workbench FROM common"))
+        self._workbenches: dict[str, str] = {unit: its for unit, its in self._rows("SELECT unit, workbench FROM common")}
         self.conflicts = self._file_revisions("conflict")
         self.sent: dict[str, str | None] = {unit: text for unit, text in self._rows("SELECT unit, text FROM sent")}
         contents = {unit: content for unit, content in self._rows("SELECT unit, content FROM written")}

@@ -4,11 +4,11 @@ from __future__ import annotations
 import queue
 import threading
 import time
-from collections.abc import Callable, Iterable
+from collections.abc import Callable
 from dataclasses import dataclass
 from typing import Self
 
-from bench61499 import Change, NoSuchUnit, Put, Session, WorkbenchError
+from bench61499 import Change, Commit, NoSuchUnit, Put, Session, WorkbenchError
 from bench61499.mirror import Changed, Connected, Disconnected, Loaded, Mirror, News, Version
 
 ASKED_AFTER = 2.0
@@ -40,6 +40,7 @@ class Team:
         self._mirror = Mirror(connect, self._told, all_texts=True, kinds=())
         self._awaited: dict[str, _Awaited] = {}
         self._callers: dict[str, str] = {}
+        self._removers: dict[str, str] = {}
         self._own: set[int] = set()
         self.units: set[str] = set()
         self.error: WorkbenchError | None = None
@@ -68,22 +69,25 @@ class Team:
                 case Connected(_, is_other):
                     self.error = None
                     if is_other:
-                        self._awaited, self._own, self._callers = {}, set(), {}
+                        self._awaited, self._own, self._callers, self._removers = {}, set(), {}, {}
                 case Loaded():
                     self.units |= self._mirror.revisions().keys()
                 case Changed(commit, changes):
                     self.units |= {it.unit for it in changes}
                     if commit:
-                        self._see(commit.number, _named(commit.caller, editors), (it.unit for it in changes))
+                        self._see(commit, "you" if commit.number in self._own else _named(commit.caller, editors))
                 case Disconnected(error):
                     self.error = error
         self._ask_for_late()
 
-    def _see(self, number: int, caller: str, units: Iterable[str]) -> None:
-        for unit in units:
-            self._callers[unit] = "you" if number in self._own else caller
-            if unit in self._awaited and self._awaited[unit].number <= number:
+    def _see(self, commit: Commit, caller: str) -> None:
+        removers = {unit: self._removers.pop(unit) for unit in commit.put if unit in self._removers}
+        for unit in (*commit.put, *commit.removed):
+            remover = removers.get(unit, caller)
+            self._callers[unit] = caller if remover == caller else f"{caller}, after {remover} had removed it"
+            if unit in self._awaited and self._awaited[unit].number <= commit.number:
                 del self._awaited[unit]
+        self._removers |= dict.fromkeys(commit.removed, caller)
 
     def _ask_for_late(self) -> None:
         """A unit that came and went while nothing was told is not told at all."""
