@@ -18,11 +18,12 @@ from support import CLIENTS, HISTORY, InFolder, hosting, run, serving, until, us
 
 from bench61499 import Change, Commit, ConnectionEnded, Fault, NoResult, NotLetIn, Put, Remove, Session, batches
 from bench61499.cli.command import AGAIN, Progress, persistently
-from bench61499.cli.comparing import STATE, replace
+from bench61499.cli.comparing import replace
 from bench61499.cli.looking import ONLY_ASKED
 from bench61499.language.units import Misuse, Unit
 from bench61499.secret import secret_file
 from bench61499.snapshot import Snapshot
+from bench61499.sync.store import NAME, STATE
 
 ASKED = f"{ONLY_ASKED}\n"
 SAME = "The workbench has the same texts.\n"
@@ -143,7 +144,7 @@ class HostTest(Shared):
 
     def differences(self, workbench: str, common: dict[str, str]) -> dict[str, str]:
         """What check prints of a folder that had these texts in common with a workbench."""
-        state = self.folder / STATE
+        state = self.folder / NAME / STATE
         state.parent.mkdir(exist_ok=True)
         state.unlink(missing_ok=True)
         with closing(sqlite3.connect(state)) as tables, tables:

@@ -660,6 +660,18 @@ class StartedAgainTest(TeamTest):
         (change,) = asked["params"]["edit"]["documentChanges"]
         self.assertEqual((edited(GOOD, change["edits"]), asked["params"]["label"]), (BAD, "The team's text of A"))
 
+    def test_a_text_that_a_colleague_went_back_to_before(self) -> None:
+        """The editor was there, so it is no question which text is the later one."""
+        self.running.open(self.file)
+        self.running.await_codes(A=[])
+        self.running.change(self.file, BAD)
+        self.await_text(BAD)
+        with self.host.session() as session:
+            number = session.commit([Put("A", session.revision("A"), GOOD)])
+        self.running.await_told("A.fb", changed("A", number), (2, f"{FAULT} \\(as last known\\)"))
+        self.start_again(Put("A", 0, GOOD))
+        self.running.await_told("A.fb", (3, r"A was changed by others \(commit 1\)"), (2, f"{FAULT} \\(as last known\\)"))
+
     def test_a_text_that_a_colleague_had_overtaken_is_not_put(self) -> None:
         """The colleague has the later text, and comes again."""
         self.running.open(self.file)

@@ -15,14 +15,13 @@ from unittest.mock import patch
 from exchanging import imported
 from support import CLIENTS, CONVEYOR, InFolder, hosting, locked, run, workbench
 
-from bench61499.cli.comparing import last_common
 from bench61499.exchange import imports
 from bench61499.exchange.xmlfile import find_xml
 from bench61499.language.folder import Folder
 from bench61499.language.units import Misuse
 from bench61499.language.writing import create, write_over
 from bench61499.lsp.sources import Sources
-from bench61499.sync.store import Store
+from bench61499.sync.store import Store, last_common
 
 LOOSE = "FUNCTION_BLOCK   {}\nEND_FUNCTION_BLOCK\n"
 """A unit that is not laid out."""

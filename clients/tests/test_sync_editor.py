@@ -19,6 +19,7 @@ from syncing import TEXT, Host, Syncing, team_texts
 from bench61499 import Commit, Put, Remove, Session
 from bench61499.lsp.choices import PUT
 from bench61499.sync.editors import Opened, Reporter, opened_in
+from bench61499.sync.recorder import Noted, Recorder
 from bench61499.sync.store import FileRevision, Store, record
 
 PATIENCE = 60.0
@@ -203,10 +204,7 @@ class AloneTest(InFolder):
 
     def save(self, text: str) -> Editor:
         """Has an editor save a text, which is the workbench's then."""
-        editor = Editor("--connect", f":{self.host.port}")
-        self.addCleanup(editor.process.kill)
-        editor.start(self.file.parent, CAN)
-        editor.open(self.file)
+        editor = self.started()
         editor.await_codes(A=[])
         editor.change(self.file, text)
         self.file.write_text(text)
@@ -263,6 +261,24 @@ class AloneTest(InFolder):
         self.go_back()
         ran = self.sync("--pull", "--push")
         self.assertEqual((ran.returncode, ran.stderr, self.texts()), (0, "", (A, A)))
+
+    def started(self) -> Editor:
+        editor = Editor("--connect", f":{self.host.port}")
+        self.addCleanup(editor.process.kill)
+        editor.start(self.file.parent, CAN)
+        editor.open(self.file)
+        return editor
+
+    def test_an_editor_that_starts_later_knows_what_a_colleague_has_changed(self) -> None:
+        self.colleague.commit([Put("A", 1, HOT)])
+        self.started().await_told("A.fb", (3, r"A was changed by others \(commit 2\)"))
+
+    def test_an_editor_that_starts_later_knows_what_its_user_has_changed(self) -> None:
+        self.file.write_text(HOT)
+        editor = self.started()
+        editor.await_told("A.fb", (3, r"A differs from the team's text \(commit 1\), and it is not known which is newer"))
+        editor.change(self.file, HOTTER)
+        self.await_text(HOTTER)
 
     def test_what_a_sync_has_recorded_later_stays(self) -> None:
         """Also if the editor comes after it with what it knew before."""
@@ -323,6 +339,13 @@ class ReporterTest(InFolder):
         other = self.write("away/letter.txt", b"1")
         (self.state / "editors").symlink_to(other.parent)
         self.assertEqual((opened_in(self.state), other.exists()), ({}, True))
+
+    def test_a_recorder_that_is_closed_twice(self) -> None:
+        """As a server is that is shut down, and whose editor ends then."""
+        recorder = Recorder()
+        recorder.note(self.folder / "A.fb", Noted("A", "text", "text", 1, "x"))
+        for _ in range(2):
+            recorder.close()
 
     def test_a_link_leads_nowhere(self) -> None:
         (self.folder / "other").mkdir()

@@ -4,6 +4,7 @@ from __future__ import annotations
 
 import signal
 import subprocess
+import time
 import unittest
 from pathlib import Path
 from subprocess import CompletedProcess
@@ -201,6 +202,7 @@ class DayTest(InFolder):
 
     def come_back(self) -> None:
         """Ben works at home: without a sync. Ann has changed the same unit meanwhile, and removed one that nobody uses."""
+        time.sleep(1)  # His `sync` has found that all is the same.
         self.assertEqual(self.ben.end(signal.SIGINT), 130)
         text = self.text(self.ann, "STATION")
         self.save(self.ben, "STATION", f"{text}// Ben, at home\n")

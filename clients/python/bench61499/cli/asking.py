@@ -8,13 +8,14 @@ from typing import Any
 
 from bench61499 import Key, NoSuchKey, Session
 from bench61499.cli.command import Progress, open_session, tell
-from bench61499.cli.comparing import compare, in_words, last_common, only_there, replace
+from bench61499.cli.comparing import compare, in_words, only_there, replace
 from bench61499.cli.looking import ONLY_ASKED
 from bench61499.language.as_declared import AsDeclared, shown_units
 from bench61499.language.mentions import Mentions
 from bench61499.language.texts import Texts as Known
 from bench61499.language.units import Misuse, Unit, commit_units, read_units, refuse_marked
 from bench61499.snapshot import Snapshot
+from bench61499.sync.store import last_common
 
 Texts = dict[str, str]
 

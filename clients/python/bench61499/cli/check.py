@@ -8,13 +8,14 @@ from pathlib import Path
 
 from bench61499 import Fault, Key, Session, WorkbenchError
 from bench61499.cli.command import Progress, add_patience, add_workbench, fail, open_session, persistently, program, read_path, tell
-from bench61499.cli.comparing import AGAIN, Difference, Judged, compare, last_common, not_compared, only_there, remarks, replace
+from bench61499.cli.comparing import AGAIN, Difference, Judged, compare, not_compared, only_there, remarks, replace
 from bench61499.cli.findings import Answers, Found, answers_of, ask_plans, find, keys_of
 from bench61499.cli.formats import MACHINE_FORMATS, lines, summary
 from bench61499.cli.looking import ONLY_ASKED, look
 from bench61499.cli.version import add_version
 from bench61499.language.units import Misuse, Unit, commit_units, read_units, refuse_marked
 from bench61499.snapshot import Snapshot
+from bench61499.sync.store import last_common
 
 PLANS = """also compute all networks and plans. Each reason why one is missing is printed and gives status 1: UNMAPPED at the instance, NO_SUCH_BLOCK at the mapping, RECURSIVE at the
 instance by which a type contains itself or leads to such a type, BLOCKED at the instance that leads to units that are absent or have faults, TOO_LARGE at the declared name.

@@ -1,27 +1,21 @@
 """Which files have other texts than the workbench that a team uses, as `git status` tells it, and how it gets those of the files."""
 from __future__ import annotations
 
-import sqlite3
 from collections.abc import Iterable, Iterator, Mapping
-from contextlib import closing
 from dataclasses import dataclass
 from enum import StrEnum
 from itertools import groupby
 from operator import attrgetter
 from pathlib import Path
 
-from bench61499 import UNITS_LIMIT, Change, NoSuchUnit, Put, Remove, Session, StaleBase, batches
+from bench61499 import Change, NoSuchUnit, Put, Remove, Session, StaleBase, batches
 from bench61499.cli.command import Progress
 from bench61499.language.units import Misuse, Unit
 from bench61499.snapshot import Snapshot
-from bench61499.sync import store
-from bench61499.sync.store import is_of_sync
 
 AGAIN = "{} was changed by somebody else while it was checked; check again"
 NAMED = 20
 """Units that one line names, at most."""
-STATE = Path(store.NAME, store.STATE)
-"""What `sync` keeps in a folder: the texts that the folder and the workbench last had in common."""
 
 
 class How(StrEnum):
@@ -137,24 +131,3 @@ def replace(session: Session, snapshot: Snapshot, units: list[Unit], is_mirror: 
             numbers = f"commit {commits[0]}" if not commits[1:] else f"commits {commits[0]} to {commits[-1]}"
             progress.tell(f"committed as session {caller}, {numbers}: {named(sorted(done))}")
     return sum(it.name in there for it in units)
-
-
-def last_common(paths: Iterable[Path], workbench: str) -> dict[str, str]:
-    """The texts that the folders of these paths last had in common with this workbench, as `sync` and editors have recorded them; none if it never ran there, or is at work."""
-    states = {state for path in paths for state in _states_above(path.absolute())}
-    return {unit: text for state in sorted(states) for unit, text in _common_of(state, workbench)}
-
-
-def _states_above(path: Path) -> Iterator[Path]:
-    """The nearest state."""
-    yield from [state for folder in (path, *path.parents) if (state := folder / STATE).is_file()][:1]
-
-
-def _common_of(state: Path, workbench: str) -> list[tuple[str, str]]:
-    try:
-        with closing(sqlite3.connect(f"{state.as_uri()}?mode=ro", uri=True, timeout=0)) as tables:
-            if not is_of_sync(tables):
-                return []
-            return tables.execute(f"SELECT unit, text FROM common WHERE workbench = ? AND revision > 0 LIMIT {UNITS_LIMIT}", (workbench,)).fetchall()
-    except sqlite3.Error:
-        return []

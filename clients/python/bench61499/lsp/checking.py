@@ -23,6 +23,7 @@ from bench61499.lsp.talk import Talk
 from bench61499.lsp.teamtalk import TeamTalk
 from bench61499.sync.editors import Opened, Reporter
 from bench61499.sync.recorder import Noted, Recorder
+from bench61499.sync.store import last_common
 
 PIECE = 0.005
 """Seconds for which files and texts are read, and files that are not open are shown, before the next message is looked for."""
@@ -46,7 +47,7 @@ class Checking:
         self._send, self._shared = send, shared
         self.asking = Asking(send)
         self._sources = Sources(lambda words: self.asking.tell(WARNING, words))
-        self._new_talk = lambda: Talk(open_workbench, shared, self.asking.tell, wake)
+        self._new_talk = lambda: Talk(open_workbench, shared, self.asking.tell, wake, self._recorded)
         self._talk: Talk | TeamTalk = self._new_talk()
         self._pages = Pages(self._sources, shared)
         self.choices = Choices(self, self.asking)
@@ -176,6 +177,10 @@ class Checking:
                 it = self._pages.units.get(unit)
                 opened[path] = Opened(unit, self._sources.is_unsaved(path), it.common if it else None, session)
         self._reporter.report(opened)
+
+    def _recorded(self, workbench: str) -> dict[str, str]:
+        """The texts that files here and a workbench had in common, as recorded in their folders."""
+        return last_common([*self._sources.folders, *list(self._sources.documents)], workbench)
 
     def _record(self, path: Path, saved: str | None = None) -> None:
         """Records which text of the workbench a file comes from: the one that both have, or the last one that both had if the user has saved a text."""

@@ -14,6 +14,7 @@ from bench61499 import HistoryFull, Key, NoSeat, NoSuchKey, NotLetIn, NoWorkbenc
 from bench61499.lsp.rpc import ERROR, INFO
 from bench61499.lsp.commits import News, Wanted
 from bench61499.lsp.shared import SharedTexts
+from bench61499.lsp.team import LastCommon
 from bench61499.lsp.teamtalk import TeamTalk, woken
 
 FULL_PAUSE = 60.0
@@ -24,7 +25,8 @@ NO_TEXTS = "This server gives no text back, as a `host` does, so texts of collea
 
 
 class Talk:
-    """One talk. `wake` is called, in its thread, when something is done; `tell` shows words to the user.
+    """One talk. `wake` is called, in its thread, when something is done; `tell` shows words to the user; `last_common` gives the texts that the files and a workbench had in
+    common, as recorded.
 
     A shared workbench is looked for again by itself, an own one when `open` is called. `trouble` tells why nothing is checked now; it is empty
     if all is well. `successor` begins the talk that goes on, if the workbench turns out to answer reads. `caller` is the number of the session that commits,
@@ -34,8 +36,8 @@ class Talk:
     gives_texts = is_over = False
     caller = 0
 
-    def __init__(self, open_workbench: Callable[[], Session], shared: bool, tell: Callable[[int, str], None], wake: Callable[[], None]):
-        self._open_workbench, self._shared, self._tell, self._wake = open_workbench, shared, tell, wake
+    def __init__(self, open_workbench: Callable[[], Session], shared: bool, tell: Callable[[int, str], None], wake: Callable[[], None], last_common: LastCommon):
+        self._open_workbench, self._shared, self._tell, self._wake, self._last_common = open_workbench, shared, tell, wake, last_common
         self.trouble = ""
         self.successor: Callable[[], TeamTalk] | None = None
         self._texts: SharedTexts | None = None
@@ -130,7 +132,7 @@ class Talk:
     def _take(self, result: Session | float | None) -> None:
         """Takes a workbench that was found, or how long there is nothing more to do after a turn."""
         if isinstance(result, Session) and self._has_reads:
-            self.successor = partial(TeamTalk, self._open_workbench, result, self._tell, self._wake)
+            self.successor = partial(TeamTalk, self._open_workbench, result, self._tell, self._wake, self._last_common)
             return
         if isinstance(result, Session):
             self._session, self._is_resumed, self._due = result, False, time.monotonic()

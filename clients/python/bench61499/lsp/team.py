@@ -2,7 +2,7 @@
 from __future__ import annotations
 
 import time
-from collections.abc import Iterable
+from collections.abc import Callable, Iterable, Mapping
 from dataclasses import replace
 
 from bench61499 import Commit, Put
@@ -15,18 +15,20 @@ from bench61499.mirror import Came, Changed, Connected, Loaded, Mirror, News, No
 
 MOST_PUT = 512
 """Units of files that one turn puts."""
+LastCommon = Callable[[str], Mapping[str, str]]
 
 
 class TeamTexts(Committed):
     """The units of a host, compared with the texts here. It commits what its user has changed in a text that is the workbench's otherwise.
 
     A text that somebody else has changed is never put over unless the user has asked for it, and none is put that has marked lines of a merge.
-    It `has_more` if a turn has not put all texts of files. All its methods are for one thread at a time.
+    It `has_more` if a turn has not put all texts of files. `last_common` gives the texts that the files and a workbench had in common, as recorded before.
+    All its methods are for one thread at a time.
     """
 
-    def __init__(self, mirror: Mirror):
+    def __init__(self, mirror: Mirror, last_common: LastCommon = lambda _: {}):
         super().__init__()
-        self._mirror, self._mentions = mirror, Mentions()
+        self._mirror, self._mentions, self._last_common = mirror, Mentions(), last_common
         self._workbench = self._known = ""
         self.has_more = False
         self._faults: dict[str, Faults] = {}
@@ -40,7 +42,7 @@ class TeamTexts(Committed):
         self._is_all = True
         self._run: dict[str, set[int]] = {}
         self._removals: dict[str, Commit] = {}
-        self._overtaken_there: frozenset[str] = frozenset()
+        self._later: dict[str, str | None] = {}
         self._knows_removals = False
 
     @property
@@ -103,9 +105,9 @@ class TeamTexts(Committed):
                 self._take_faults(unit, value)
 
     def _forget(self) -> None:
-        """Nothing is known of the workbench any more, but the last texts that it and this editor both had, and which texts here others had overtaken."""
-        overtaken = (unit for unit, it in self._units.items() if it.is_changed and it.revision and it.author)
-        self._workbench, self._overtaken_there = "", self._overtaken_there.union(overtaken)
+        """Nothing is known of the workbench any more, but the last texts that it and this editor both had, and those that others have put later."""
+        self._workbench = ""
+        self._later |= {unit: it.text for unit, it in self._units.items() if it.is_changed and it.revision and it.author}
         self._removals, self._knows_removals = {}, False
         self._units, self._faults, self._untold, self._run = {}, {}, {}, {}
         self._own, self._behind, self._early, self._under_way = set(), set(), set(), []
@@ -115,11 +117,16 @@ class TeamTexts(Committed):
         """Takes all that is there, and again what was taken of it before."""
         self._workbench, self._units = self._known, {}
         self._faults = {unit: faults for unit, faults in self._mirror.values("faults").items() if isinstance(faults, tuple)}
+        recorded = self._last_common(self._workbench)
+        for unit, text in recorded.items():
+            self._agree(unit, text)
         for unit, version in self._mirror.versions().items():
             self._set_theirs(unit, version, None)
-        for unit in self._overtaken_there - self._units.keys():
+            if version.text != recorded.get(unit, version.text) or version.text == self._later.get(unit):
+                self._set(unit, replace(self._units[unit], author=Author(0, version.revision, None), is_former=False))
+        for unit in self._later.keys() - self._units.keys():
             self._set(unit, Unit(0, None, True, False, None, self._common.get(unit)))
-        self._overtaken_there = frozenset()
+        self._later = {}
 
     def _find_removals(self) -> None:
         """Finds who has removed units that have a text here, as far back as the host knows: they are not put again unasked."""

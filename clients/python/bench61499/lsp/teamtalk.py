@@ -10,7 +10,7 @@ from typing import Any, TypeVar
 from bench61499 import Key, NoReads, Refused, Session, WorkbenchError
 from bench61499.lsp.commits import News, Wanted
 from bench61499.lsp.rpc import ERROR, INFO, WARNING
-from bench61499.lsp.team import TeamTexts
+from bench61499.lsp.team import LastCommon, TeamTexts
 from bench61499.mirror import Connected, Mirror
 from bench61499.mirror import News as Told
 
@@ -34,13 +34,13 @@ class TeamTalk:
 
     gives_texts = True
 
-    def __init__(self, connect: Callable[[], Session], first: Session, tell: Callable[[int, str], None], wake: Callable[[], None]):
+    def __init__(self, connect: Callable[[], Session], first: Session, tell: Callable[[int, str], None], wake: Callable[[], None], last_common: LastCommon):
         self._connect, self._first, self._tell, self._wake = connect, [first], tell, wake
         self.trouble, self._known_caller = "", 0
         self.is_over = self._is_known = self._is_woken = False
         self._told: queue.SimpleQueue[Told] = queue.SimpleQueue()
         self._mirror = Mirror(self._open, self._hear, all_texts=True)
-        self._texts = TeamTexts(self._mirror)
+        self._texts = TeamTexts(self._mirror, last_common)
         self._thread, self._asking = ThreadPoolExecutor(1), ThreadPoolExecutor(1)
         self._task: Future[None] | None = None
         self._lost: WorkbenchError | None = None

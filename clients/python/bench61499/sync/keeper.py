@@ -246,13 +246,20 @@ class Keeper:
         return merged
 
     def _bring_one(self, unit: str, decision: Decision, version: Version) -> None:
-        name = self._incoming.bring(unit, self._units.files.get(unit), decision, version, self._team.caller(unit))
+        name = self._incoming.bring(unit, self._units.files.get(unit), decision, version, f"{self._team.caller(unit)}{self._removal(unit)}")
         if name:
             self._units.files[unit] = name
         else:
             self._units.files.pop(unit, None)
         if decision.step != Step.CONFLICT:
             self._report.is_over(unit)
+
+    def _removal(self, unit: str) -> str:
+        """Words about a unit that comes back."""
+        if not self._store.had(unit):
+            return ""
+        remover = self._team.remover(unit)
+        return f", after {remover} had removed it" if remover else ", after it had been removed"
 
     def _may(self, unit: str, step: Step) -> bool:
         """Whether a step may be done; if not, that is told."""

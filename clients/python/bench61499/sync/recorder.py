@@ -46,10 +46,11 @@ class Recorder:
             self._thread.submit(self._record_soon)
 
     def close(self) -> None:
-        """Records what was noted, and ends."""
-        self._is_closing.set()
-        self._thread.submit(self._record)
-        self._thread.shutdown()
+        """Records what was noted, and ends. It can be closed again."""
+        if not self._is_closing.is_set():
+            self._is_closing.set()
+            self._thread.submit(self._record)
+            self._thread.shutdown()
 
     def _record_soon(self) -> None:
         self._is_closing.wait(PAUSE)

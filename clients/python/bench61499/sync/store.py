@@ -6,13 +6,14 @@ import fcntl
 import os
 import sqlite3
 import time
-from collections.abc import Callable, Iterator, Mapping
+from collections.abc import Callable, Iterable, Iterator, Mapping
 from contextlib import closing, contextmanager
 from dataclasses import astuple, dataclass
 from datetime import UTC, datetime
 from hashlib import sha256
 from pathlib import Path
 
+from bench61499 import UNITS_LIMIT
 from bench61499.language.names import is_unit_name
 from bench61499.language.units import Misuse, can_be_unit, is_hidden
 
@@ -151,6 +152,10 @@ class Store:
         """Whether the common text of a unit was common with this workbench."""
         return unit in self.common and self._workbenches[unit] == self.identity
 
+    def had(self, unit: str) -> bool:
+        """Whether the folder and a workbench once had a unit in common that they have not now."""
+        return unit not in self.common and bool(self._tables.execute("SELECT 1 FROM former WHERE unit = ?", (unit,)).fetchone())
+
     def was_former(self, unit: str, text: str) -> bool:
         """Whether this text was common once, and another one has come in its place."""
         common = self.common.get(unit)
@@ -245,6 +250,28 @@ def _prepare_tables(tables: sqlite3.Connection, folder: Path) -> None:
     if form > _FORM:
         raise Misuse(f"{folder}: was written by a later version of sync")
     tables.executescript(f"{_TABLES} PRAGMA user_version = {_FORM};")
+
+
+def last_common(paths: Iterable[Path], workbench: str) -> dict[str, str]:
+    """The texts that the folders of these paths last had in common with this workbench, as `sync` and editors have recorded them; none if it never ran there, or is at work."""
+    states = {state for path in paths for state in _states_above(path.absolute())}
+    return {unit: text for state in sorted(states) for unit, text in _common_of(state, workbench)}
+
+
+def _states_above(path: Path) -> Iterator[Path]:
+    """The nearest state."""
+    yield from [state for folder in (path, *path.parents) if (state := folder / NAME / STATE).is_file()][:1]
+
+
+def _common_of(state: Path, workbench: str) -> list[tuple[str, str]]:
+    try:
+        with closing(sqlite3.connect(f"{state.as_uri()}?mode=ro", uri=True, timeout=0)) as tables:
+            if not is_of_sync(tables):
+                return []
+            rows = tables.execute(f"SELECT unit, text FROM common WHERE workbench = ? AND revision > 0 LIMIT {UNITS_LIMIT}", (workbench,)).fetchall()
+            return [(unit, text) for unit, text in rows if isinstance(unit, str) and isinstance(text, str)]
+    except sqlite3.Error:
+        return []
 
 
 def refuse_foreign(folder: Path) -> None:

@@ -81,10 +81,8 @@ class Team:
         self._ask_for_late()
 
     def _see(self, commit: Commit, caller: str) -> None:
-        removers = {unit: self._removers.pop(unit) for unit in commit.put if unit in self._removers}
         for unit in (*commit.put, *commit.removed):
-            remover = removers.get(unit, caller)
-            self._callers[unit] = caller if remover == caller else f"{caller}, after {remover} had removed it"
+            self._callers[unit] = caller
             if unit in self._awaited and self._awaited[unit].number <= commit.number:
                 del self._awaited[unit]
         self._removers |= dict.fromkeys(commit.removed, caller)
@@ -131,6 +129,10 @@ class Team:
     def caller(self, unit: str) -> str:
         """Who changed a unit last, in words; empty if that is not known."""
         return f" by {self._callers[unit]}" if unit in self._callers else ""
+
+    def remover(self, unit: str) -> str:
+        """Who removed a unit last, in words; empty if that is not known."""
+        return self._removers.get(unit, "")
 
     # What is done
 
