@@ -164,7 +164,11 @@ class Checking:
         self._wanted, self._is_dirty = replace(self._wanted, kept=self._vanished.kept), True
 
     def close(self) -> None:
-        """Ends the workbench, with what it is doing."""
+        """Ends the workbench, with what it is doing. What it has committed is recorded."""
+        if isinstance(self._talk, TeamTalk):
+            news = self._talk.finish()
+            self._pages.take(news)
+            self._record_all(news.units)
         self._talk.close()
         self._reporter.close()
         self._recorder.close()
@@ -189,6 +193,11 @@ class Checking:
         text = source.text if source and saved is None else saved
         if unit and workbench and it.revision and it.common is not None and text is not None and (saved is not None or it.text == it.common == text):
             self._recorder.note(path, Noted(unit, text, it.common, it.revision, workbench))
+
+    def _record_all(self, units: Iterable[str]) -> None:
+        for unit in units:
+            if path := self._sources.owners.get(unit):
+                self._record(path)
 
     # Files
 
@@ -326,7 +335,7 @@ class Checking:
         for unit, path in found.items():
             if it := self._pages.units.get(unit):
                 self._offers.note(path, unit, it, self._wanted.texts.get(unit))
-                self._record(path)
+        self._record_all(news.units)
         self._show({*found.values(), *self.plant.skipping(news.units)})
 
     def _drop_passed(self) -> None:

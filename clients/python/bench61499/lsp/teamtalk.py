@@ -4,7 +4,7 @@ from __future__ import annotations
 import queue
 import time
 from collections.abc import Callable
-from concurrent.futures import Future, ThreadPoolExecutor
+from concurrent.futures import Future, ThreadPoolExecutor, wait
 from typing import Any, TypeVar
 
 from bench61499 import Key, NoReads, Refused, Session, WorkbenchError
@@ -16,6 +16,8 @@ from bench61499.mirror import News as Told
 
 PATIENCE, PAUSE = 20.0, 0.05
 """Seconds that a value is waited for while it is being computed, and between two questions for it."""
+ENDS_IN = 1.0
+"""Seconds that a turn under way has yet when the talk is to end."""
 AGAIN = 1.0
 """Seconds after which a commit of which no reply came is looked at again."""
 STARTED_AGAIN = "The workbench was started again, and has lost what it had: the texts here are compared with those that it has now."
@@ -121,6 +123,12 @@ class TeamTalk:
             self._take(task)
         self._say()
         return self._texts.take_news() if task and not self._task else None
+
+    def finish(self) -> News:
+        """Gives what the turn that is under way has found, if it ends soon."""
+        if self._task:
+            wait([self._task], ENDS_IN)
+        return self._texts.take_news()
 
     def close(self) -> None:
         """Ends the talk, with what it is doing."""
