@@ -19,7 +19,7 @@ class Editor:
     Where what a test waits for doesn't come, the server is killed after `patience` seconds, and the test fails.
     """
 
-    def __init__(self, *words: object, patience: float = 40, lsp: Path = CLIENTS / "lsp"):
+    def __init__(self, *words: object, patience: float = 300, lsp: Path = CLIENTS / "lsp"):
         self.process = subprocess.Popen([lsp, *map(str, words)], stdin=subprocess.PIPE, stdout=subprocess.PIPE)
         self._watch = threading.Timer(patience, self.process.kill)
         self._watch.daemon = True

@@ -576,7 +576,7 @@ class ConflictTest(KeeperTest):
         self.assertEqual((one.team.caller("A"), other.team.caller("A")), (f" by session {other.team.session}", " by you"))
 
     def test_who_has_put_a_unit_again(self) -> None:
-        """Who removed it is told that."""
+        """Who removed it learns that."""
         one, _ = self.both()
         one.file("A.fb").unlink()
         self.settle(one)
@@ -687,7 +687,7 @@ class LostTest(KeeperTest):
         return self.keeping("one"), other
 
     def test_neither_an_older_text_nor_one_that_somebody_went_back_to_is_replaced(self) -> None:
-        """Nobody can tell which of them it is, so the user is asked."""
+        """Nobody knows which of them it is, so the user is asked."""
         for is_older in (True, False):
             one, other = self.earlier()
             with redirect_stdout(io.StringIO()) as said:

@@ -246,7 +246,7 @@ class AloneTest(InFolder):
         self.assertEqual((ran.returncode, ran.stderr, self.texts()), (0, "", (HOT, HOT)))
 
     def test_a_host_that_is_started_again(self) -> None:
-        """Whether a colleague went back to the text before, nobody can tell."""
+        """Nobody knows whether a colleague went back to the text before."""
         self.save(HOT).close()
         self.start_again()
         self.colleague.commit([Put("A", 0, A)])
@@ -302,7 +302,7 @@ class AloneTest(InFolder):
         self.assertEqual(self.sync("--push").returncode, 0)
 
     def test_a_state_from_elsewhere_is_left_alone(self) -> None:
-        """An editor goes on, and writes nothing there."""
+        """An editor continues, and writes nothing there."""
         state = self.state / "state.sqlite"
         with closing(sqlite3.connect(state)) as tables:
             tables.executescript("DROP TABLE common; CREATE VIEW common AS SELECT 1")
