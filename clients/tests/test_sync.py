@@ -624,6 +624,22 @@ class LostTest(KeeperTest):
         self.settle(one)
         self.assertEqual((self.team(), one.texts(), one.file("A.fb.theirs").exists()), ({"A": HOTTER}, {"A.fb": HOTTER}, False))
 
+    def test_a_colleague_goes_back_to_the_text_before_a_commit_without_an_answer(self) -> None:
+        """Whether it was made is not known any more, so the user is asked."""
+        one, _ = self.both()
+        commit = one.team.commit
+
+        def unanswered(workbench: str, changes: list[Change]) -> int:
+            number = commit(workbench, changes)
+            self.session.commit([Put("A", number, A)])
+            raise ConnectionEnded("it ended")
+
+        one.file("A.fb").write_text(HOT)
+        with patch.object(one.team, "commit", unanswered):
+            one.step()
+        self.settle(one)
+        self.assertEqual((self.team(), one.texts(), one.file("A.fb.theirs").read_text()), ({"A": A}, {"A.fb": HOT}, A))
+
     def test_a_commit_that_was_not_made(self) -> None:
         one, _ = self.both()
         one.file("A.fb").write_text(HOT)

@@ -202,13 +202,15 @@ class Keeper:
         return theirs is not None and theirs.revision == NOT_HERE and theirs.text != self._here(unit)
 
     def _find_out(self, unit: str, version: Version) -> None:
-        """Whether a commit was made to which no answer came."""
+        """Whether a commit was made to which no answer came. Where the text before it is there again, somebody may have gone back to it."""
         sent, common = self._store.sent[unit], self._store.common.get(unit)
-        is_made = sent == version.text
+        is_made, is_later = sent == version.text, version.revision > (common.revision if common else 0)
         if is_made:
             file = self._units.files.get(unit) or (common.file if common else f"{unit}.fb")
             self._store.agree(unit, FileRevision(file, version.revision, sent) if sent is not None else None)
-        if is_made or version.revision > (common.revision if common else 0):
+        elif is_later and common and common.text == version.text:
+            self._store.found(unit, None)
+        if is_made or is_later:
             self._store.take_back([unit])
 
     def _decide(self, unit: str, version: Version) -> Decision:
@@ -256,7 +258,7 @@ class Keeper:
 
     def _removal(self, unit: str) -> str:
         """Words about a unit that comes back."""
-        if not self._store.had(unit):
+        if unit in self._units.files or not self._store.had(unit):
             return ""
         remover = self._team.remover(unit)
         return f", after {remover} had removed it" if remover else ", after it had been removed"
