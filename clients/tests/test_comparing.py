@@ -192,7 +192,8 @@ class KnowingTest(ComparingTest):
             editor.change(self.file, GOOD.replace("A", name, 1), version)
             while {it.unit for it in self.other.units().units} != {name}:
                 self.other.watch(self.other.status().calls, 10)
-        editor.ask("documentSymbol", self.file)
+        editor.change(self.file, BAD, 4)
+        editor.await_told("A.fb", (1, FAULT))
         self.assertEqual(editor.messages, [])
 
     def test_a_unit_that_was_removed_before_the_editor_started_is_not_put_again(self) -> None:

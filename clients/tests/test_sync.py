@@ -26,7 +26,7 @@ from bench61499.sync.files import Changed, Writer
 from bench61499.sync.incoming import Incoming
 from bench61499.sync.keeper import Keeper, Ways
 from bench61499.sync.outgoing import Outgoing
-from bench61499.sync.report import LASTS, Report
+from bench61499.sync.report import LASTS, MANY, Report
 from bench61499.sync.saved import Saved
 from bench61499.sync.store import FileRevision, Store
 from bench61499.sync.team import Team
@@ -831,6 +831,19 @@ class OutageTest(unittest.TestCase):
             report.found()
             report.found()
         self.assertEqual(said.getvalue(), "sync: closed; trying again\nsync: all in use; trying again\nthe host answers again\n")
+
+
+class ManyTest(unittest.TestCase):
+    def test_many_units_are_counted(self) -> None:
+        """With what is to be done with conflicts."""
+        report, said = Report(), io.StringIO()
+        for step in (Step.WRITE, Step.CONFLICT):
+            for at in range(MANY + 1):
+                report.did(step, f"U{at}.fb")
+        with redirect_stdout(said):
+            report.flush()
+        beside = "each file has the other text beside it, as NAME.fb.theirs; edit the files, and delete those to commit them"
+        self.assertEqual(said.getvalue(), f"{MANY + 1} units written\n{MANY + 1} units in conflict: {beside}\n")
 
 
 class HostileTest(KeeperTest):

@@ -23,6 +23,8 @@ _DONE = {
     Step.MERGE: "merged",
     Step.CONFLICT: "in conflict",
 }
+_MORE = {Step.CONFLICT: ": each file has the other text beside it, as NAME.fb.theirs; edit the files, and delete those to commit them"}
+"""What is added to a number of units."""
 
 
 class Report:
@@ -60,7 +62,7 @@ class Report:
                 self.say(line)
         for step, count in counts.items():
             if count > MANY:
-                self.say(f"{count:,} units {'to be ' if self._is_dry else ''}{_DONE[step]}")
+                self.say(f"{count:,} units {'to be ' if self._is_dry else ''}{_DONE[step]}{_MORE.get(step, '')}")
 
     def say(self, words: str) -> None:
         print(printable(words), flush=True)
