@@ -835,7 +835,7 @@ class OutageTest(unittest.TestCase):
 
 class ManyTest(unittest.TestCase):
     def test_many_units_are_counted(self) -> None:
-        """With what is to be done with conflicts."""
+        """A line of conflicts says what to do."""
         report, said = Report(), io.StringIO()
         for step in (Step.WRITE, Step.CONFLICT):
             for at in range(MANY + 1):

@@ -24,8 +24,8 @@ LEAST_AGE = 5.0
 
 
 class Pages:
-    """What there is to show. `units` and `faults` are what is known of the workbench, whose identity is `workbench` if it gives texts; there is `trouble` if nothing is known now.
-    `caller` is the number of this editor's session.
+    """What there is to show. `units` and `faults` are what is known of the workbench, whose identity is `workbench` if it gives texts; there is `trouble` if nothing is
+    known now. `caller` is the number of this editor's session.
 
     A workbench that `gives_texts` is compared with the texts here; one that is `shared` gets none with marked lines of a merge. It `relates` faults to other places if the editor can show that.
     """
