@@ -180,6 +180,7 @@ class DayTest(InFolder):
         until(lambda: self.team()["STATION"] == f"// Ann, alone\n{text}// Ben, alone\n" and self.team()["LIFTER"] == self.cid.text, PATIENCE)
         self.await_agreement(self.ann, self.ben)
         self.viewer.until(lambda it: it.state("GAUGE") == "fine")
+        until(lambda: "the host answers again" in self.log_said.read_text(), PATIENCE)
         for it in (self.ann, self.ben):
             before, again, _ = it.said().partition("the host answers again\n")
             self.assertTrue(before.endswith("trying again\n") and before.count("trying again") == 1 and again, it.said())
