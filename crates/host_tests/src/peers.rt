@@ -10,7 +10,7 @@ use std::{io, thread};
 const BOUND: u64 = 20_000;
 
 /// How many fields a structure has, of how many types, and how many of these structures are in a commit.
-const FIELDS: usize = 1500;
+const FIELDS: usize = 300;
 
 const TYPES: usize = 60;
 
