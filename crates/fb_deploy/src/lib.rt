@@ -5,7 +5,7 @@ mod laws;
 mod planning;
 
 pub use fb_mapping::is_system;
-pub use fb_mapping::placing::{Plan, ResourcePlan};
+pub use fb_mapping::placing::{Plan, ResourcePlan, WrittenPlan};
 pub use laws::{
     has_plan_by_text, one_plan, plan_at_is_local, plan_at_is_plan, plan_at_of_systems,
     plan_is_local, plan_is_unchanged,

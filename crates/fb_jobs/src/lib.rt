@@ -51,5 +51,5 @@ pub mod flatten {
 
 /// Of `fb_deploy`, for the crates above.
 pub mod deploy {
-    pub use fb_deploy::{Deploy, Plan, ResourcePlan};
+    pub use fb_deploy::{Deploy, Plan, ResourcePlan, WrittenPlan};
 }

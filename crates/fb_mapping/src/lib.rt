@@ -42,7 +42,9 @@ pub mod plain {
 
 /// Of `fb_placing`, for the crates above.
 pub mod placing {
-    pub use fb_placing::{Home, Homes, Misplaced, Plan, ResourcePlan, homes_of, plan_of};
+    pub use fb_placing::{
+        Home, Homes, Misplaced, Plan, ResourcePlan, WrittenPlan, homes_of, plan_of,
+    };
 }
 
 /// Of `fb_flatten`, for the crates above.

@@ -1,6 +1,4 @@
 //! The placement of systems. `plan` of `fb_deploy` goes the same way, by the flat network and `homes_of`; what each makes of the homes is of another type.
-ghost use Rattle.std.specs.Prelude.{◌≡◌, IfOk};
-ghost use Rattle.fb_mapping.specs.Placed.{IsPlaced, IsSystem, flat_placed, plain_placed};
 
 use fb_flatten::library::View;
 use fb_flatten::text::Name;
@@ -26,14 +24,12 @@ fn place_flat<V: View>(
     view: &V,
     system: &Name,
     flat: &Flat,
-) -> Result<Placed, AllocError>
-    ensures { IfOk result
-        (λ placed. plain_placed placed ≡ flat_placed (V.sources view.now) system.now flat.now) }
-{
-    match homes_of(alloc, view, system, flat)? {
+) -> Result<Placed, AllocError> {
+    match homes_of(alloc, view, system)? {
         Homes::Faulty(found) => Ok(Placed::Faulty(found)),
         Homes::On(homes) => {
-            let cuts = cuts_of(alloc, homes.as_slice(), flat)?;
+            let cuts = cuts_of(alloc, &homes, flat)?;
+            let homes = homes.plain(alloc)?;
             Ok(Placed::On { homes, cuts })
         }
     }
@@ -41,10 +37,7 @@ fn place_flat<V: View>(
 
 /// The resource on which each block of a system is, by the longest path of a mapping that is the block's or a prefix of it, and the
 /// links between resources; or why there is no flat network, or what is misplaced.
-pub fn place<V: View>(alloc: Global, view: &V, system: Name) -> Result<Placed, AllocError>
-    requires { IsSystem (V.sources view.now) system }
-    ensures { IfOk result (λ placed. IsPlaced (V.sources view.now) system (plain_placed placed)) }
-{
+pub fn place<V: View>(alloc: Global, view: &V, system: Name) -> Result<Placed, AllocError> {
     match net(alloc, view, system)? {
         Net::Flat(flat) => place_flat(alloc, view, &system, &flat),
         stopped => Ok(Placed::Stopped(stopped)),

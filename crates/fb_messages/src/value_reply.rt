@@ -1,19 +1,13 @@
 //! The values of entries, as JSON.
 #![tactic(auto, using(crate::proofs::Entries::entries))]
 
-ghost use Rattle.std.specs.Prelude.{◌≡◌, codes};
-ghost use Rattle.serde_json.specs.Data.{string};
-ghost use Rattle.fb_jobs.specs.{Deploy.Deploy.{plain_deploy}, Flatten.Net.{plain_net}, Values.{finding_of}};
-ghost use Rattle.fb_messages.specs.Replies.{block_item, border_item, deploy_said, fault_item, flat_said, link_item, list_of, misplaced_item, net_said, plan_said, resource_item, sort_text, value_said};
-ghost use Rattle.fb_messages.specs.Tokens.{IsMember, IsSaid};
-
 use crate::to_json::{ToJson, write_one, write_three, write_two};
 use fb_jobs::Value;
-use fb_jobs::deploy::{Deploy, Plan, ResourcePlan};
+use fb_jobs::deploy::{Deploy, Plan, ResourcePlan, WrittenPlan};
 use fb_jobs::flatten::Net;
 use fb_jobs::iface::Fault;
 use fb_jobs::placing::Misplaced;
-use fb_network::Flat;
+use fb_network::{Flat, WrittenFlat};
 use fb_tree::Sort;
 use json::Writer;
 use std::alloc::AllocError;
@@ -30,9 +24,7 @@ impl ToJson for Fault {
     }
 }
 
-fn sort_text(sort: Sort) -> &'static str
-    ensures { result.now ≡ sort_text sort }
-{
+fn sort_text(sort: Sort) -> &'static str {
     match sort {
         Sort::Event => "event",
         Sort::Data => "data",
@@ -41,55 +33,51 @@ fn sort_text(sort: Sort) -> &'static str
 }
 
 /// The blocks, each with the name of its type. One text is used for all paths.
-fn write_blocks(out: &mut Writer, flat: &Flat) -> Result<(), AllocError>
-    ensures { IsSaid result out.old out.new (list_of block_item flat.now.blocks) }
-{
+fn write_blocks(out: &mut Writer, written: &WrittenFlat<'_>) -> Result<(), AllocError> {
+    let flat = written.flat;
     let mut path = String::new(flat.allocator());
     out.begin_array()?;
     for place in 0..flat.block_count() {
-        let type_name = flat.put_block(place, &mut path)?;
-        write_two(out, path.as_str(), type_name.as_str())?;
+        let type_name = written.put_block(place, &mut path)?;
+        write_two(out, path.as_str(), type_name)?;
     }
     out.end_array()
 }
 
 /// The borders. One text is used for all places.
-fn write_borders(out: &mut Writer, flat: &Flat) -> Result<(), AllocError>
-    ensures { IsSaid result out.old out.new (list_of border_item flat.now.borders) }
-{
+fn write_borders(out: &mut Writer, written: &WrittenFlat<'_>) -> Result<(), AllocError> {
+    let flat = written.flat;
     let mut at = String::new(flat.allocator());
     out.begin_array()?;
     for place in 0..flat.border_count() {
-        let (sort, port) = flat.put_border(place, &mut at)?;
+        let (sort, port) = written.put_border(place, &mut at)?;
         write_three(out, sort_text(sort), port.as_str(), at.as_str())?;
     }
     out.end_array()
 }
 
 /// The links. Two texts are used for all places.
-fn write_links(out: &mut Writer, flat: &Flat) -> Result<(), AllocError>
-    ensures { IsSaid result out.old out.new (list_of link_item flat.now.links) }
-{
+fn write_links(out: &mut Writer, written: &WrittenFlat<'_>) -> Result<(), AllocError> {
+    let flat = written.flat;
     let mut from = String::new(flat.allocator());
     let mut to = String::new(flat.allocator());
     out.begin_array()?;
     for place in 0..flat.link_count() {
-        let sort = flat.put_link(place, &mut from, &mut to)?;
+        let sort = written.put_link(place, &mut from, &mut to)?;
         write_three(out, sort_text(sort), from.as_str(), to.as_str())?;
     }
     out.end_array()
 }
 
-fn write_flat(out: &mut Writer, flat: &Flat) -> Result<(), AllocError>
-    ensures { IsSaid result out.old out.new (flat_said flat.now) }
-{
+fn write_flat(out: &mut Writer, flat: &Flat) -> Result<(), AllocError> {
+    let written = flat.written()?;
     out.begin_object()?;
     out.key("blocks")?;
-    write_blocks(out, flat)?;
+    write_blocks(out, &written)?;
     out.key("borders")?;
-    write_borders(out, flat)?;
+    write_borders(out, &written)?;
     out.key("links")?;
-    write_links(out, flat)?;
+    write_links(out, &written)?;
     out.end_object()
 }
 
@@ -118,9 +106,7 @@ impl ToJson for Misplaced {
 }
 
 /// The links between resources. Two texts are used for all places.
-fn write_cuts(out: &mut Writer, plan: &Plan) -> Result<(), AllocError>
-    ensures { IsSaid result out.old out.new (list_of link_item plan.now.cuts) }
-{
+fn write_cuts(out: &mut Writer, plan: &WrittenPlan<'_>) -> Result<(), AllocError> {
     let mut from = String::new(plan.allocator());
     let mut to = String::new(plan.allocator());
     out.begin_array()?;
@@ -135,9 +121,7 @@ fn write_commands(
     out: &mut Writer,
     resource: &ResourcePlan<'_>,
     text: &mut String,
-) -> Result<(), AllocError>
-    ensures { IsSaid result out.old out.new (list_of string resource.now.commands) }
-{
+) -> Result<(), AllocError> {
     out.begin_array()?;
     for place in 0..resource.command_count() {
         resource.put_command(place, text)?;
@@ -150,9 +134,7 @@ fn write_resource(
     out: &mut Writer,
     resource: &ResourcePlan<'_>,
     text: &mut String,
-) -> Result<(), AllocError>
-    ensures { IsSaid result out.old out.new (resource_item resource.now) }
-{
+) -> Result<(), AllocError> {
     out.begin_array()?;
     out.string(resource.name().as_str())?;
     write_commands(out, resource, text)?;
@@ -160,9 +142,7 @@ fn write_resource(
 }
 
 /// The resources. One text is used for all commands.
-fn write_resources(out: &mut Writer, plan: &Plan) -> Result<(), AllocError>
-    ensures { IsSaid result out.old out.new (list_of resource_item plan.now.resources) }
-{
+fn write_resources(out: &mut Writer, plan: &WrittenPlan<'_>) -> Result<(), AllocError> {
     let mut text = String::new(plan.allocator());
     out.begin_array()?;
     for place in 0..plan.resource_count() {
@@ -171,21 +151,17 @@ fn write_resources(out: &mut Writer, plan: &Plan) -> Result<(), AllocError>
     out.end_array()
 }
 
-fn write_resources_member(out: &mut Writer, plan: &Plan) -> Result<(), AllocError>
-    ensures { IsMember result out.old out.new (codes "resources")
-        (list_of resource_item plan.now.resources) }
-{
+fn write_resources_member(out: &mut Writer, plan: &WrittenPlan<'_>) -> Result<(), AllocError> {
     out.key("resources")?;
     write_resources(out, plan)
 }
 
-fn write_plan(out: &mut Writer, plan: &Plan) -> Result<(), AllocError>
-    ensures { IsSaid result out.old out.new (plan_said plan.now.cuts plan.now.resources) }
-{
+fn write_plan(out: &mut Writer, plan: &Plan) -> Result<(), AllocError> {
     out.begin_object()?;
+    let written = plan.written()?;
     out.key("cuts")?;
-    write_cuts(out, plan)?;
-    write_resources_member(out, plan)?;
+    write_cuts(out, &written)?;
+    write_resources_member(out, &written)?;
     out.end_object()
 }
 

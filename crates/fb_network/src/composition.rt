@@ -3,6 +3,7 @@ mod behind;
 mod borders;
 mod draft;
 pub(crate) mod flat_network;
+mod inside;
 mod instances;
 mod links;
 mod members;

@@ -1,26 +1,23 @@
 //! Flat networks: their blocks, links and borders, kept by numbers and ordered by their texts.
-ghost use Rattle.std.specs.{Prelude.{◌≡◌, ◌↔◌, refl, IfOk, IsTrue}, Ordering.{eq_by_cmp, as_partial_cmp}};
-ghost use Rattle.std.specs.Cmp.{eq_by_cmp_equiv, partial_equiv_from_equiv, partial_order_from_total};
-ghost use Rattle.fb_network.specs.LinkOrder.{link_cmp, link_cmp_total, border_cmp, border_cmp_total};
 
 pub(crate) mod application;
 pub(crate) mod count;
 pub(crate) mod entries;
-mod numbered;
+pub(crate) mod numbered;
 pub(crate) mod order;
-mod same;
-mod shown;
+pub(crate) mod same;
+pub(crate) mod shown;
 
-use crate::flat::entries::{Edge, Join, Leaf, plain_blocks, plain_borders, plain_links};
-use crate::flat::same::{are_same_edges, are_same_joins, are_same_leaves};
+use crate::flat::entries::{Edge, Join, plain_blocks, plain_borders, plain_links};
+use crate::flat::same::FlatPair;
 use crate::network::sort_number;
 use crate::paths::path::Path;
+use crate::paths::place::Place;
 use crate::paths::prefixes::Prefixes;
 use fb_tree::Sort;
 use fb_tree::text::Name;
 use std::alloc::{AllocError, Global};
 use std::cmp::Ordering;
-use std::marker::Model;
 use std::sync::Arc;
 
 /// A block of a flat network, with the name of its type.
@@ -131,7 +128,7 @@ impl Ord for Border {
 #[derive(Debug, Drop)]
 pub(crate) struct Tables {
     pub(crate) prefixes: Prefixes,
-    pub(crate) leaves: Vec<Leaf>,
+    pub(crate) blocks: Vec<Place>,
     pub(crate) joins: Vec<Join>,
     pub(crate) edges: Vec<Edge>,
 }
@@ -149,59 +146,35 @@ impl Drop for Flat {
     }
 }
 
-impl Model for Flat {
-    ghost use Rattle.std.specs.Prelude.{length};
-    ghost use Rattle.fb_network.specs.{PlainFlat.{PlainFlat}, Laid.{flat_at, IsLaid}};
-
-    ghost Value = { PlainFlat };
-
-    ghost view = { λ it. flat_at it.tables.value.prefixes it.tables.value.leaves.items it.tables.value.joins.items it.tables.value.edges.items };
-
-    ghost invariant = { λ it. IsLaid (length it.tables.value.prefixes) it.tables.value.leaves.items it.tables.value.joins.items it.tables.value.edges.items };
-}
-
 impl Flat {
     /// Where its lists are allocated.
     pub fn allocator(&self) -> Global {
-        *self.tables.leaves.allocator()
+        *self.tables.blocks.allocator()
     }
 
     /// The same network, with the same tables.
-    pub fn share(&self) -> Result<Flat, AllocError>
-        ensures { IfOk result (λ flat. flat ≡ self.now) }
-    {
+    pub fn share(&self) -> Result<Flat, AllocError> {
         let tables = self.tables.clone()?;
         Ok(Flat { tables })
     }
 
     /// The blocks as plain values, in the order of the text.
-    pub fn plain_blocks(&self, alloc: Global) -> Result<Vec<FlatBlock>, AllocError>
-        ensures { IfOk result (λ blocks. blocks.items ≡ self.now.blocks) }
-    {
-        plain_blocks(alloc, &self.tables.prefixes, &self.tables.leaves)
+    pub fn plain_blocks(&self, alloc: Global) -> Result<Vec<FlatBlock>, AllocError> {
+        plain_blocks(alloc, &self.tables.prefixes, &self.tables.blocks)
     }
 
     /// The links as plain values, in order.
-    pub fn plain_links(&self, alloc: Global) -> Result<Vec<Link>, AllocError>
-        ensures { IfOk result (λ links. links.items ≡ self.now.links) }
-    {
+    pub fn plain_links(&self, alloc: Global) -> Result<Vec<Link>, AllocError> {
         plain_links(alloc, &self.tables.prefixes, &self.tables.joins)
     }
 
     /// The borders as plain values, in order.
-    pub fn plain_borders(&self, alloc: Global) -> Result<Vec<Border>, AllocError>
-        ensures { IfOk result (λ borders. borders.items ≡ self.now.borders) }
-    {
+    pub fn plain_borders(&self, alloc: Global) -> Result<Vec<Border>, AllocError> {
         plain_borders(alloc, &self.tables.prefixes, &self.tables.edges)
     }
 
     /// Whether both have the same content. It takes no memory.
-    pub fn is_same(&self, other: &Flat) -> bool
-        ensures { IsTrue result ↔ (self.now ≡ other.now) }
-    {
-        let (a, b) = (&*self.tables, &*other.tables);
-        are_same_leaves(&a.prefixes, &a.leaves, &b.prefixes, &b.leaves)
-            && are_same_joins(&a.prefixes, &a.joins, &b.prefixes, &b.joins)
-            && are_same_edges(&a.prefixes, &a.edges, &b.prefixes, &b.edges)
+    pub fn is_same(&self, other: &Flat) -> bool {
+        FlatPair::of(self, other).are_same()
     }
 }

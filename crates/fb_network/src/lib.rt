@@ -14,13 +14,14 @@ pub use composition::flat_network::compose_by_part;
 pub use composition::system::join;
 pub use flat::application::FlatApplication;
 pub use flat::count::INSTANCE_LIMIT;
+pub use flat::numbered::BlockNumbers;
+pub use flat::same::FlatPair;
+pub use flat::shown::WrittenFlat;
 pub use flat::{Border, Flat, FlatBlock, Link};
 pub use laws::{chains_are_composed, flat_is_one, system_is_one};
 pub use network::look_up::{Nets, Networks};
 pub use network::{
     Connection, End, Instance, InstanceKind, Network, Port, is_same_sort, sort_number,
 };
-pub use paths::compare::compare_parts;
 pub use paths::path::Path;
-pub use paths::path_table::{PathTable, nearest};
 pub use sorted::sort_once;

@@ -5,7 +5,6 @@ ghost use Rattle.fb_network.specs.Sorts.{number_of, same_sort};
 pub(crate) mod adapters;
 pub(crate) mod look_up;
 pub(crate) mod own;
-pub(crate) mod table;
 
 use fb_tree::text::Name;
 use fb_tree::{Side, Sort};

@@ -2,20 +2,18 @@
 //! clause 7: system configurations).
 #![tactic(auto)]
 
-mod first_entry;
 mod homes;
 mod laws;
 mod numbers;
-mod paths;
 mod plan;
 
+pub use homes::block_homes::{BlockHomes, Home};
 pub use homes::cuts::cuts_of;
-pub use homes::{Home, Homes, Misplaced, homes_of};
+pub use homes::{Homes, Misplaced, homes_of};
 pub use laws::homes_are_nearest;
-pub use paths::names::path_names;
 pub use plan::Plan;
 pub use plan::build::plan_of;
-pub use plan::shown::ResourcePlan;
+pub use plan::shown::{ResourcePlan, WrittenPlan};
 
 /// Of `fb_network`, for the crates above.
 pub mod plain {

@@ -119,6 +119,7 @@ fn placement_told(alloc: Global, library: &Library) -> Result<String, Fail> {
 
 fn resources_told(alloc: Global, plan: &Plan) -> Result<String, AllocError> {
     let (mut told, mut command) = (String::new(alloc), String::new(alloc));
+    let plan = plan.written()?;
     for number in 0..plan.resource_count() {
         let resource = plan.resource(number);
         write!(told, "{}", resource.name().as_str())?;

@@ -1,7 +1,6 @@
 //! Sorts, paths, links and borders, and the lists of networks and of flat networks.
 use crate::told::{say_borders, say_links, say_network};
 use fb_network::{Border, Link, Network, Path, Port, is_same_sort, sort_number};
-use fb_placing::path_names;
 use fb_tree::text::Name;
 use fb_tree::{Side, Sort};
 use std::alloc::Global;
@@ -41,8 +40,6 @@ fn paths_are_names_joined_by_points(rt: HostRuntime) -> Result<(), Fail> {
     let alloc = rt.alloc();
     assert_eq!(rt; joined(alloc)?.as_str(), "A.B.C", "two within one");
     assert_eq!(rt; longer(alloc)?.as_str(), "A.B", "one behind one");
-    let names = path_names(alloc, "APP.SUB.F")?;
-    assert_eq!(rt; names.as_slice(), ["APP", "SUB", "F"].as_slice(), "names");
     Ok(())
 }
 

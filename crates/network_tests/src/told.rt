@@ -1,6 +1,6 @@
 //! Texts of units in, and what is made of them out, as phrases with `; ` between.
 use fb_deploy::parse::Source;
-use fb_deploy::{Deploy, Plan, ResourcePlan, plan};
+use fb_deploy::{Deploy, Plan, ResourcePlan, WrittenPlan, plan};
 use fb_flatten::{Net, has_net, net};
 use fb_library::parse::Body;
 use fb_library::{Change, Library, tree_by_name};
@@ -222,7 +222,7 @@ pub fn placement_told(alloc: Global, library: &Library, system: &str) -> Result<
 }
 
 /// Adds cut links. Two texts are used for all places.
-fn say_cuts(alloc: Global, told: &mut String, plan: &Plan) -> Result<(), AllocError> {
+fn say_cuts(alloc: Global, told: &mut String, plan: &WrittenPlan<'_>) -> Result<(), AllocError> {
     let (mut from, mut to) = (String::new(alloc), String::new(alloc));
     for place in 0..plan.cut_count() {
         let sort = plan.put_cut(place, &mut from, &mut to)?;
@@ -249,7 +249,8 @@ fn say_commands(
 /// Cut links, and the commands of each resource. One text is used for all commands.
 fn commands_told(alloc: Global, plan: &Plan) -> Result<String, Fail> {
     let mut told = String::new(alloc);
-    say_cuts(alloc, &mut told, plan)?;
+    let plan = plan.written()?;
+    say_cuts(alloc, &mut told, &plan)?;
     let mut command = String::new(alloc);
     for place in 0..plan.resource_count() {
         say_commands(&mut told, &plan.resource(place), &mut command)?;

@@ -1,119 +1,74 @@
 //! What the numbers of a flat network mean.
-ghost use Rattle.std.specs.Prelude.{◌≡◌, ◌++◌, length, map, slice_get};
-ghost use Rattle.fb_network.specs.{Laid.{block_at, link_at}, Numbered.{block_numbered, block_or_nothing, link_numbered, link_or_nothing}};
 
 use crate::flat::Flat;
-use crate::flat::entries::{Join, Leaf};
+use crate::paths::place::{Place, number};
 use crate::paths::prefixes::Prefixes;
-use fb_tree::Sort;
+use std::alloc::{AllocError, Global};
 
-/// The two parts of the path of a block.
-#[tactic(auto, using(crate::proofs::Numbers::numbers))]
-fn block_path<'a>(prefixes: &'a Prefixes, leaves: &[Leaf], number: u32) -> (&'a str, &'a str)
-    ensures { result.0.now ++ result.1.now
-        ≡ (block_or_nothing (slice_get (map (block_at prefixes.now) leaves.now) number)).path }
-{
-    match leaves.get(number as usize) {
-        Some(leaf) => prefixes.parts(&leaf.place),
-        None => ("", ""),
-    }
+/// The numbers of blocks by the places of their instances.
+#[derive(Drop)]
+pub struct BlockNumbers {
+    first: Vec<u32>,
+    numbers: Vec<Option<u32>>,
 }
 
-/// The name of the type of a block.
-#[tactic(auto, using(crate::proofs::Numbers::numbers))]
-fn block_type<'a>(_prefixes: &Prefixes, leaves: &'a [Leaf], number: u32) -> &'a str
-    ensures { result.now
-        ≡ (block_or_nothing (slice_get (map (block_at _prefixes.now) leaves.now) number)).type_name }
-{
-    match leaves.get(number as usize) {
-        Some(leaf) => leaf.type_name.as_str(),
-        None => "",
+impl BlockNumbers {
+    /// The numbers of these blocks.
+    pub(crate) fn of(
+        alloc: Global,
+        prefixes: &Prefixes,
+        blocks: &[Place],
+    ) -> Result<BlockNumbers, AllocError> {
+        let count = prefixes.count()?;
+        let mut first = Vec::with_capacity(alloc, count as usize)?;
+        let mut numbers = Vec::new(alloc);
+        for prefix in 0..count {
+            first.push(number(numbers.len())?)?;
+            for _ in 0..prefixes.instances(prefix) {
+                numbers.push(None)?;
+            }
+        }
+        for block in 0..blocks.len() {
+            let place = blocks[block];
+            let at = first[place.prefix as usize] as usize + place.end as usize;
+            numbers[at] = Some(number(block)?);
+        }
+        Ok(BlockNumbers { first, numbers })
     }
-}
 
-/// The two parts of the path where a link begins.
-#[tactic(auto, using(crate::proofs::Numbers::numbers))]
-fn link_from<'a>(prefixes: &'a Prefixes, joins: &[Join], number: u32) -> (&'a str, &'a str)
-    ensures { result.0.now ++ result.1.now
-        ≡ (link_or_nothing (slice_get (map (link_at prefixes.now) joins.now) number)).from }
-{
-    match joins.get(number as usize) {
-        Some(join) => prefixes.parts(&join.from),
-        None => ("", ""),
+    /// The number of the block to which a port belongs.
+    pub(crate) fn block_of(&self, prefixes: &Prefixes, port: &Place) -> Option<u32> {
+        self.at(&prefixes.instance_of(port)?)
     }
-}
 
-/// The two parts of the path where a link ends.
-#[tactic(auto, using(crate::proofs::Numbers::numbers))]
-fn link_to<'a>(prefixes: &'a Prefixes, joins: &[Join], number: u32) -> (&'a str, &'a str)
-    ensures { result.0.now ++ result.1.now
-        ≡ (link_or_nothing (slice_get (map (link_at prefixes.now) joins.now) number)).to }
-{
-    match joins.get(number as usize) {
-        Some(join) => prefixes.parts(&join.to),
-        None => ("", ""),
-    }
-}
-
-/// The sort of a link.
-#[tactic(auto, using(crate::proofs::Numbers::numbers))]
-fn link_sort(_prefixes: &Prefixes, joins: &[Join], number: u32) -> Sort
-    ensures { result
-        ≡ (link_or_nothing (slice_get (map (link_at _prefixes.now) joins.now) number)).sort }
-{
-    match joins.get(number as usize) {
-        Some(join) => join.sort,
-        None => Sort::Event,
+    /// The number of the block at a place.
+    fn at(&self, place: &Place) -> Option<u32> {
+        let first = *self.first.get(place.prefix as usize)?;
+        *self.numbers.get(first as usize + place.end as usize)?
     }
 }
 
 impl Flat {
     /// How many blocks there are.
-    pub fn block_count(&self) -> usize
-        ensures { result ≡ length self.now.blocks }
-    {
-        self.tables.leaves.len()
+    pub fn block_count(&self) -> usize {
+        self.tables.blocks.len()
     }
 
     /// How many links there are.
-    pub fn link_count(&self) -> usize
-        ensures { result ≡ length self.now.links }
-    {
+    pub fn link_count(&self) -> usize {
         self.tables.joins.len()
     }
 
-    /// The path of a block, in two parts.
-    pub fn block_path(&self, number: u32) -> (&str, &str)
-        ensures { result.0.now ++ result.1.now ≡ (block_numbered self.now number).path }
-    {
-        block_path(&self.tables.prefixes, &self.tables.leaves, number)
+    /// The numbers of the blocks by the places of their instances.
+    pub fn block_numbers(&self, alloc: Global) -> Result<BlockNumbers, AllocError> {
+        BlockNumbers::of(alloc, &self.tables.prefixes, &self.tables.blocks)
     }
 
-    /// The name of the type of a block.
-    pub fn block_type(&self, number: u32) -> &str
-        ensures { result.now ≡ (block_numbered self.now number).type_name }
-    {
-        block_type(&self.tables.prefixes, &self.tables.leaves, number)
-    }
-
-    /// The path where a link begins, in two parts.
-    pub fn link_from(&self, number: u32) -> (&str, &str)
-        ensures { result.0.now ++ result.1.now ≡ (link_numbered self.now number).from }
-    {
-        link_from(&self.tables.prefixes, &self.tables.joins, number)
-    }
-
-    /// The path where a link ends, in two parts.
-    pub fn link_to(&self, number: u32) -> (&str, &str)
-        ensures { result.0.now ++ result.1.now ≡ (link_numbered self.now number).to }
-    {
-        link_to(&self.tables.prefixes, &self.tables.joins, number)
-    }
-
-    /// The sort of a link.
-    pub fn link_sort(&self, number: u32) -> Sort
-        ensures { result ≡ (link_numbered self.now number).sort }
-    {
-        link_sort(&self.tables.prefixes, &self.tables.joins, number)
+    /// The numbers of the blocks where a link begins and ends.
+    pub fn link_blocks(&self, numbers: &BlockNumbers, link: u32) -> Option<(u32, u32)> {
+        let join = self.tables.joins.get(link as usize)?;
+        let from = self.tables.prefixes.instance_of(&join.from)?;
+        let to = self.tables.prefixes.instance_of(&join.to)?;
+        Some((numbers.at(&from)?, numbers.at(&to)?))
     }
 }

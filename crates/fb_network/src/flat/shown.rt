@@ -1,81 +1,59 @@
-//! Entries of a flat network, whose places are written over texts that are used again.
-ghost use Rattle.std.specs.Prelude.{◌≡◌, ◌<◌, IfOk, Some, length, map, slice_get, string_bytes};
-ghost use Rattle.fb_network.specs.Laid.{block_at, border_at, link_at};
+//! What a flat network says. Its texts are written over texts that are used again.
 
 use crate::flat::Flat;
-use crate::flat::entries::{Edge, Join, Leaf};
-use crate::paths::place::put_path;
-use crate::paths::prefixes::Prefixes;
+use crate::paths::place::Place;
+use crate::paths::prefixes::Starts;
 use fb_tree::Sort;
 use fb_tree::text::Name;
 use std::alloc::AllocError;
 
-fn put_leaf(
-    prefixes: &Prefixes,
-    leaves: &[Leaf],
-    place: usize,
-    path: &mut String,
-) -> Result<Name, AllocError>
-    requires { place < length leaves.now }
-    ensures { IfOk result (λ type_name. slice_get (map (block_at prefixes.now) leaves.now) place
-        ≡ Some (record { path = string_bytes path.new; type_name = type_name })) }
-{
-    let leaf = &leaves[place];
-    put_path(prefixes, &leaf.place, path)?;
-    Ok(leaf.type_name.name())
-}
-
-fn put_join(
-    prefixes: &Prefixes,
-    joins: &[Join],
-    place: usize,
-    from: &mut String,
-    to: &mut String,
-) -> Result<Sort, AllocError>
-    requires { place < length joins.now }
-    ensures { IfOk result (λ sort. slice_get (map (link_at prefixes.now) joins.now) place
-        ≡ Some (record {
-          sort = sort;
-          from = string_bytes from.new;
-          to = string_bytes to.new;
-        })) }
-{
-    let join = &joins[place];
-    put_path(prefixes, &join.from, from)?;
-    put_path(prefixes, &join.to, to)?;
-    Ok(join.sort)
-}
-
-fn put_edge(
-    prefixes: &Prefixes,
-    edges: &[Edge],
-    place: usize,
-    at: &mut String,
-) -> Result<(Sort, Name), AllocError>
-    requires { place < length edges.now }
-    ensures { IfOk result (λ found. slice_get (map (border_at prefixes.now) edges.now) place
-        ≡ Some (record { sort = found.0; port = found.1; place = string_bytes at.new })) }
-{
-    let edge = &edges[place];
-    put_path(prefixes, &edge.place, at)?;
-    Ok((edge.sort, edge.port))
+/// A flat network while its paths are written.
+#[derive(Drop)]
+pub struct WrittenFlat<'a> {
+    pub flat: &'a Flat,
+    starts: Starts<'a>,
 }
 
 impl Flat {
+    /// The network with what its paths begin with.
+    pub fn written(&self) -> Result<WrittenFlat<'_>, AllocError> {
+        let starts = Starts::of(self.allocator(), &self.tables.prefixes)?;
+        Ok(WrittenFlat { flat: self, starts })
+    }
+
     /// How many borders there are.
-    pub fn border_count(&self) -> usize
-        ensures { result ≡ length self.now.borders }
-    {
+    pub fn border_count(&self) -> usize {
         self.tables.edges.len()
+    }
+}
+
+impl WrittenFlat<'_> {
+    /// Adds the path at a place to a text.
+    fn push(&self, place: &Place, text: &mut String) -> Result<(), AllocError> {
+        let (start, end) = self.starts.parts(place);
+        text.push_str(start)?;
+        text.push_str(end)
+    }
+
+    /// The name of the type of a block.
+    fn type_of(&self, block: &Place) -> &str {
+        match self.flat.tables.prefixes.type_of(block) {
+            Some(name) => name.as_str(),
+            None => "",
+        }
+    }
+
+    /// Writes the path at a place over a text.
+    fn put(&self, place: &Place, text: &mut String) -> Result<(), AllocError> {
+        text.clear();
+        self.push(place, text)
     }
 
     /// Writes the path of a block over a text, and gives the name of its type.
-    pub fn put_block(&self, place: usize, path: &mut String) -> Result<Name, AllocError>
-        requires { place < length self.now.blocks }
-        ensures { IfOk result (λ type_name. slice_get self.now.blocks place
-            ≡ Some (record { path = string_bytes path.new; type_name = type_name })) }
-    {
-        put_leaf(&self.tables.prefixes, &self.tables.leaves, place, path)
+    pub fn put_block(&self, place: usize, path: &mut String) -> Result<&str, AllocError> {
+        let block = &self.flat.tables.blocks[place];
+        self.put(block, path)?;
+        Ok(self.type_of(block))
     }
 
     /// Writes the two places of a link over texts, and gives its sort.
@@ -84,26 +62,33 @@ impl Flat {
         place: usize,
         from: &mut String,
         to: &mut String,
-    ) -> Result<Sort, AllocError>
-        requires { place < length self.now.links }
-        ensures { IfOk result (λ sort. slice_get self.now.links place ≡ Some (record {
-          sort = sort;
-          from = string_bytes from.new;
-          to = string_bytes to.new;
-        })) }
-    {
-        put_join(&self.tables.prefixes, &self.tables.joins, place, from, to)
+    ) -> Result<Sort, AllocError> {
+        let join = &self.flat.tables.joins[place];
+        self.put(&join.from, from)?;
+        self.put(&join.to, to)?;
+        Ok(join.sort)
     }
 
     /// Writes the place of a border over a text, and gives its sort and its port.
-    pub fn put_border(&self, place: usize, at: &mut String) -> Result<(Sort, Name), AllocError>
-        requires { place < length self.now.borders }
-        ensures { IfOk result (λ found. slice_get self.now.borders place ≡ Some (record {
-          sort = found.0;
-          port = found.1;
-          place = string_bytes at.new;
-        })) }
-    {
-        put_edge(&self.tables.prefixes, &self.tables.edges, place, at)
+    pub fn put_border(&self, place: usize, at: &mut String) -> Result<(Sort, Name), AllocError> {
+        let edge = &self.flat.tables.edges[place];
+        self.put(&edge.place, at)?;
+        Ok((edge.sort, edge.port))
+    }
+
+    /// Adds the path of a block and the name of its type to a text, with a blank between.
+    pub fn push_block(&self, place: usize, text: &mut String) -> Result<(), AllocError> {
+        let block = &self.flat.tables.blocks[place];
+        self.push(block, text)?;
+        text.push(' ')?;
+        text.push_str(self.type_of(block))
+    }
+
+    /// Adds the two places of a link to a text, with a blank between.
+    pub fn push_link(&self, place: usize, text: &mut String) -> Result<(), AllocError> {
+        let join = &self.flat.tables.joins[place];
+        self.push(&join.from, text)?;
+        text.push(' ')?;
+        self.push(&join.to, text)
     }
 }

@@ -1,11 +1,8 @@
 //! Places: paths by numbers.
-ghost use Rattle.std.specs.{Prelude.{◌≡◌, ◌≤◌, ◌^◌, IfOk, OnErr, OnOk, string_bytes}, Ordering.{eq_by_cmp}};
-ghost use Rattle.fb_tree.specs.Text.Order.{name_cmp};
-ghost use Rattle.fb_network.specs.Laid.{path_at, place_moved};
 
 use crate::paths::compare::{compare_parts, is_same_text};
 use crate::paths::path::Path;
-use crate::paths::prefixes::Prefixes;
+use crate::paths::prefixes::{Prefixes, Starts};
 use std::alloc::{AllocError, Global};
 use std::cmp::Ordering;
 
@@ -17,48 +14,82 @@ pub struct Place {
 }
 
 /// The path at a place.
-pub fn path_of(alloc: Global, prefixes: &Prefixes, place: &Place) -> Result<Path, AllocError>
-    ensures { IfOk result (λ path. path ≡ path_at prefixes.now place.now) }
-{
-    let (start, end) = prefixes.parts(place);
-    Path::of_parts(alloc, start, end)
+pub fn path_of(alloc: Global, prefixes: &Prefixes, place: &Place) -> Result<Path, AllocError> {
+    let mut text = String::new(alloc);
+    prefixes.push_path(place, &mut text)?;
+    Path::of_parts(alloc, text.as_str(), "")
 }
 
-/// Writes the path at a place over a text.
-pub fn put_path(prefixes: &Prefixes, place: &Place, text: &mut String) -> Result<(), AllocError>
-    ensures { OnOk result (string_bytes text.new ≡ path_at prefixes.now place.now) }
-{
-    let (start, end) = prefixes.parts(place);
-    text.clear();
-    text.push_str(start)?;
-    text.push_str(end)
-}
-
-/// The order of the paths at two places. Those of one prefix differ only in their ends.
-pub fn compare_places(prefixes: &Prefixes, a: &Place, b: &Place) -> Ordering
-    ensures { result ≡ name_cmp (path_at prefixes.now a.now) (path_at prefixes.now b.now) }
-{
+/// The order of the paths at two places.
+pub fn compare_places(starts: &Starts<'_>, a: &Place, b: &Place) -> Ordering {
     if a.prefix == b.prefix {
-        return prefixes.compare_ends(a.prefix, a.end, b.end);
+        if a.end == b.end {
+            return Ordering::Equal;
+        }
+        return starts.end(a).cmp(starts.end(b));
     }
-    let (start, end) = prefixes.parts(a);
-    let (other_start, other_end) = prefixes.parts(b);
+    let (start, end) = starts.parts(a);
+    let (other_start, other_end) = starts.parts(b);
     compare_parts(start, end, other_start, other_end)
 }
 
-/// Whether the paths at two places, each among its own prefixes, are equal.
-pub fn is_same_place(prefixes: &Prefixes, a: &Place, others: &Prefixes, b: &Place) -> bool
-    ensures { result ≡ eq_by_cmp name_cmp (path_at prefixes.now a.now) (path_at others.now b.now) }
-{
-    let (start, end) = prefixes.parts(a);
-    let (other_start, other_end) = others.parts(b);
+/// Whether the paths at two places are equal.
+pub fn is_equal_place(starts: &Starts<'_>, a: &Place, b: &Place) -> bool {
+    if a.prefix == b.prefix {
+        return starts.end(a) == starts.end(b);
+    }
+    let (start, end) = starts.parts(a);
+    let (other_start, other_end) = starts.parts(b);
     is_same_text(start, end, other_start, other_end)
 }
 
+/// The bytes of the path at a place from the last to the first.
+#[derive(Drop)]
+struct Backwards<'a> {
+    prefixes: &'a Prefixes,
+    prefix: u32,
+    text: &'a [u8],
+    left: usize,
+}
+
+impl<'a> Backwards<'a> {
+    fn of(prefixes: &'a Prefixes, place: &Place) -> Backwards<'a> {
+        let text = prefixes.end(place).as_bytes();
+        Backwards {
+            prefixes,
+            prefix: place.prefix,
+            text,
+            left: text.len(),
+        }
+    }
+
+    fn before(&mut self) -> Option<u8> {
+        if self.left > 0 {
+            self.left -= 1;
+            return Some(self.text[self.left]);
+        }
+        let outer = self.prefixes.outer(self.prefix)?;
+        self.prefix = outer.prefix;
+        self.text = self.prefixes.end(&outer).as_bytes();
+        self.left = self.text.len();
+        Some(b'.')
+    }
+}
+
+/// Whether the paths at two places, each among its own prefixes, are equal. It takes no memory.
+pub fn is_same_place(prefixes: &Prefixes, a: &Place, others: &Prefixes, b: &Place) -> bool {
+    let (mut a, mut b) = (Backwards::of(prefixes, a), Backwards::of(others, b));
+    loop {
+        match (a.before(), b.before()) {
+            (None, None) => return true,
+            (Some(x), Some(y)) if x == y => {}
+            _ => return false,
+        }
+    }
+}
+
 /// The place with `by` added to the number of its prefix.
-pub fn moved(place: &Place, by: u32) -> Result<Place, AllocError>
-    ensures { IfOk result (λ there. there ≡ place_moved by place.now) }
-{
+pub fn moved(place: &Place, by: u32) -> Result<Place, AllocError> {
     match place.prefix.checked_add(by) {
         Some(prefix) => Ok(Place {
             prefix,
@@ -69,9 +100,6 @@ pub fn moved(place: &Place, by: u32) -> Result<Place, AllocError>
 }
 
 /// A number of 32 bits. A larger one is refused, as if memory were short.
-pub fn number(count: usize) -> Result<u32, AllocError>
-    ensures same { IfOk result (λ n. n ≡ count) }
-    ensures refused { OnErr result (2 ^ 32 ≤ count) }
-{
+pub fn number(count: usize) -> Result<u32, AllocError> {
     u32::try_from(count).map_err(|_| AllocError)
 }

@@ -1,173 +1,193 @@
 //! Prefixes of a network, and paths in two parts.
-ghost use Rattle.std.specs.Prelude.{◌≡◌, [], ◌∷◌, ◌++◌, List, ℕ, IfOk, OnOk, length, map, slice_get, string_bytes};
-ghost use Rattle.fb_tree.specs.Text.Order.{name_cmp};
-ghost use Rattle.fb_network.specs.{Laid.{path_at, path_in, prefix_within, text_or_nothing}, Places.{dotted}, Starts.{IsIn, start_in}};
 
 use crate::paths::path::Path;
-use crate::paths::place::{Place, number};
-use fb_tree::text::Name;
+use crate::paths::place::{Place, moved, number};
+use fb_tree::text::CompactName;
 use std::alloc::{AllocError, Global};
-use std::cmp::Ordering;
-use std::marker::Model;
 use std::sync::Arc;
 
-/// Where the start of some paths is in the text of all starts, and the texts that may follow it, which places of one type share.
+/// Texts that places share. Those of a network's own are the names of its instances and then the ends of its connections, each with the number of its
+/// instance, which is the number of instances if it is of none; those of an adapter are the names of its ports, and have no numbers. Instances have types.
 #[derive(Debug, Drop)]
-struct Prefix {
-    from: u32,
-    to: u32,
-    ends: Arc<Vec<Path>>,
+pub struct Ends {
+    pub texts: Vec<Path>,
+    pub owners: Vec<u32>,
+    pub types: Vec<CompactName>,
 }
 
-// Each instance inside a net takes this number of bytes, and the text of its start.
+/// The place below which some paths are, and the texts that may follow it, which places of one type share.
+#[derive(Debug, Drop)]
+struct Prefix {
+    outer: Place,
+    ends: Arc<Ends>,
+}
+
+// Each instance inside a net takes this number of bytes.
 const _: () = prove!(size_of::<Prefix>() == 16);
 
-/// The prefixes of a network. Their starts are one text of less than 4 GiB, one after the other.
+/// The prefixes of a network, each after the one that its outer place has. The first is that of the network itself, which has no outer place.
 #[derive(Debug, Drop)]
 pub struct Prefixes {
-    starts: String,
     prefixes: Vec<Prefix>,
 }
 
-impl Model for Prefixes {
-    ghost use Rattle.std.specs.{Prelude.{List, map, string_bytes}, List.{All}};
-    ghost use Rattle.fb_network.specs.{PlainPrefix.{PlainPrefix}, Starts.{IsIn, prefix_in}};
-
-    ghost Value = { List PlainPrefix };
-
-    ghost view = { λ it. map (prefix_in (string_bytes it.starts)) it.prefixes.items };
-
-    ghost invariant = { λ it. All (IsIn (string_bytes it.starts)) it.prefixes.items };
-}
-
 /// The text of an end, which is empty if there is no such end.
-fn end_text(ends: &[Path], end: u32) -> &str
-    ensures { result.now ≡ text_or_nothing (slice_get ends.now end) }
-{
-    match ends.get(end as usize) {
+fn end_text(ends: &Ends, end: u32) -> &str {
+    match ends.texts.get(end as usize) {
         Some(text) => text.as_str(),
         None => "",
     }
 }
 
-/// The start of a prefix.
-fn start_of<'a>(starts: &'a str, prefix: &Prefix) -> &'a str
-    requires { IsIn starts.now prefix.now }
-    ensures { result.now ≡ start_in starts.now prefix.now }
-{
-    &starts[prefix.from as usize..prefix.to as usize]
-}
-
-/// Adds two texts with a point between.
-fn push_dotted(starts: &mut String, first: &str, second: &str) -> Result<(), AllocError>
-    ensures grows { (more : List ℕ) × (string_bytes starts.new ≡ string_bytes starts.old ++ more) }
-    ensures dotted { OnOk result
-        (string_bytes starts.new ≡ string_bytes starts.old ++ dotted first.now second.now) }
-{
-    starts.push_str(first)?;
-    starts.push('.')?;
-    starts.push_str(second)
-}
-
 impl Prefixes {
     /// No prefixes.
-    pub fn new(alloc: Global) -> Prefixes
-        ensures { result ≡ [] }
-    {
+    pub fn new(alloc: Global) -> Prefixes {
         Prefixes {
-            starts: String::new(alloc),
             prefixes: Vec::new(alloc),
         }
     }
 
     /// How many there are.
-    pub fn count(&self) -> Result<u32, AllocError>
-        ensures { IfOk result (λ count. count ≡ length self.now) }
-    {
+    pub fn count(&self) -> Result<u32, AllocError> {
         number(self.prefixes.len())
     }
 
-    /// Adds a prefix without a start.
-    pub fn push_ends(&mut self, ends: Arc<Vec<Path>>) -> Result<(), AllocError>
-        ensures { OnOk result
-            (self.new ≡ self.old ++ record { start = []; ends = ends.value.items } ∷ []) }
-    {
-        self.prefixes.push(Prefix {
-            from: 0,
-            to: 0,
-            ends,
-        })?;
+    /// Adds a prefix below a place.
+    pub fn push(&mut self, outer: Place, ends: Arc<Ends>) -> Result<(), AllocError> {
+        self.prefixes.push(Prefix { outer, ends })?;
         Ok(())
     }
 
-    /// Adds a prefix whose start is two texts with a point between.
-    pub fn push(
-        &mut self,
-        first: &str,
-        second: &str,
-        ends: Arc<Vec<Path>>,
-    ) -> Result<(), AllocError>
-        ensures { OnOk result (self.new ≡ self.old ++ record {
-          start = dotted first.now second.now;
-          ends = ends.value.items;
-        } ∷ []) }
-    {
-        let from = number(self.starts.len())?;
-        push_dotted(&mut self.starts, first, second)?;
-        let to = number(self.starts.len())?;
-        self.prefixes.push(Prefix { from, to, ends })?;
-        Ok(())
-    }
-
-    /// Adds the prefixes of an inner network, inside the instance of that name.
-    pub fn push_within(&mut self, name: &Name, inner: &Prefixes) -> Result<(), AllocError>
-        ensures { OnOk result (self.new ≡ self.old ++ map (prefix_within name.now) inner.now) }
-    {
-        let name = name.as_str();
-        let names = inner.prefixes.len().saturating_mul(name.len() + 1);
-        self.starts
-            .reserve(inner.starts.len().saturating_add(names))?;
+    /// Adds the prefixes of an inner network, below a place.
+    pub fn push_within(&mut self, outer: Place, inner: &Prefixes) -> Result<(), AllocError> {
+        let before = self.count()?;
         self.prefixes.reserve(inner.prefixes.len())?;
-        for prefix in &inner.prefixes {
-            let start = start_of(inner.starts.as_str(), prefix);
-            self.push(name, start, prefix.ends.clone()?)?;
+        for i in 0..inner.prefixes.len() {
+            let prefix = &inner.prefixes[i];
+            let outer = if i == 0 {
+                outer
+            } else {
+                moved(&prefix.outer, before)?
+            };
+            self.push(outer, prefix.ends.clone()?)?;
         }
         Ok(())
     }
 
-    /// The two parts of the path at a place.
-    pub fn parts(&self, place: &Place) -> (&str, &str)
-        ensures { result.0.now ++ result.1.now ≡ path_at self.now place.now }
-    {
-        match self.prefixes.get(place.prefix as usize) {
-            Some(prefix) => {
-                let start = start_of(self.starts.as_str(), prefix);
-                (start, end_text(&prefix.ends, place.end))
-            }
-            None => ("", ""),
-        }
-    }
-
-    /// The order of the paths of two ends of one prefix.
-    #[tactic(auto, using(crate::proofs::Tellings::ends))]
-    pub fn compare_ends(&self, prefix: u32, a: u32, b: u32) -> Ordering
-        ensures { result
-            ≡ name_cmp (path_in (slice_get self.now prefix) a) (path_in (slice_get self.now prefix) b) }
-    {
-        if a == b {
-            return Ordering::Equal;
+    /// The place below which the paths of a prefix are.
+    pub fn outer(&self, prefix: u32) -> Option<Place> {
+        if prefix == 0 {
+            return None;
         }
         match self.prefixes.get(prefix as usize) {
-            Some(prefix) => end_text(&prefix.ends, a).cmp(end_text(&prefix.ends, b)),
-            None => Ordering::Equal,
+            Some(prefix) => Some(prefix.outer),
+            None => None,
         }
+    }
+
+    /// The last part of the path at a place.
+    pub fn end(&self, place: &Place) -> &str {
+        match self.prefixes.get(place.prefix as usize) {
+            Some(prefix) => end_text(&prefix.ends, place.end),
+            None => "",
+        }
+    }
+
+    /// How many instances the network of a prefix has.
+    pub fn instances(&self, prefix: u32) -> usize {
+        match self.prefixes.get(prefix as usize) {
+            Some(prefix) => prefix.ends.types.len(),
+            None => 0,
+        }
+    }
+
+    /// The type of the instance at a place.
+    pub fn type_of(&self, place: &Place) -> Option<&CompactName> {
+        let prefix = self.prefixes.get(place.prefix as usize)?;
+        prefix.ends.types.get(place.end as usize)
+    }
+
+    /// The place of the instance to which the port at a place belongs.
+    pub fn instance_of(&self, place: &Place) -> Option<Place> {
+        let prefix = self.prefixes.get(place.prefix as usize)?;
+        match prefix.ends.owners.get(place.end as usize) {
+            Some(owner) => Some(Place {
+                prefix: place.prefix,
+                end: *owner,
+            }),
+            None => self.instance_of(&prefix.outer),
+        }
+    }
+
+    /// Adds what is before the paths of a prefix.
+    fn push_start(&self, prefix: u32, text: &mut String) -> Result<(), AllocError> {
+        match self.outer(prefix) {
+            Some(outer) => {
+                self.push_path(&outer, text)?;
+                text.push('.')
+            }
+            None => Ok(()),
+        }
+    }
+
+    /// Adds the path at a place.
+    pub fn push_path(&self, place: &Place, text: &mut String) -> Result<(), AllocError> {
+        self.push_start(place.prefix, text)?;
+        text.push_str(self.end(place))
     }
 
     /// Frees the memory that no prefix needs.
-    pub fn shrink_to_fit(&mut self)
-        ensures { self.new ≡ self.old }
-    {
-        self.starts.shrink_to_fit();
+    pub fn shrink_to_fit(&mut self) {
         self.prefixes.shrink_to_fit();
+    }
+}
+
+/// What is before the paths of each prefix, as one text, while links and borders are put in order.
+#[derive(Drop)]
+pub struct Starts<'a> {
+    prefixes: &'a Prefixes,
+    text: String,
+    ranges: Vec<(u32, u32)>,
+}
+
+impl<'a> Starts<'a> {
+    /// The starts of all prefixes.
+    pub fn of(alloc: Global, prefixes: &'a Prefixes) -> Result<Starts<'a>, AllocError> {
+        let mut starts = Starts {
+            prefixes,
+            text: String::new(alloc),
+            ranges: Vec::with_capacity(alloc, prefixes.prefixes.len())?,
+        };
+        let mut start = String::new(alloc);
+        for prefix in 0..prefixes.count()? {
+            start.clear();
+            if let Some(outer) = prefixes.outer(prefix) {
+                let (first, rest) = starts.parts(&outer);
+                start.push_str(first)?;
+                start.push_str(rest)?;
+                start.push('.')?;
+            }
+            let from = number(starts.text.len())?;
+            starts.text.push_str(start.as_str())?;
+            let to = number(starts.text.len())?;
+            starts.ranges.push((from, to))?;
+        }
+        Ok(starts)
+    }
+
+    /// The last part of the path at a place.
+    pub fn end(&self, place: &Place) -> &str {
+        self.prefixes.end(place)
+    }
+
+    /// The two parts of the path at a place.
+    pub fn parts(&self, place: &Place) -> (&str, &str) {
+        match self.ranges.get(place.prefix as usize) {
+            Some((from, to)) => (
+                &self.text.as_str()[*from as usize..*to as usize],
+                self.prefixes.end(place),
+            ),
+            None => ("", ""),
+        }
     }
 }

@@ -1,32 +1,50 @@
 //! Links between blocks with different homes.
-ghost use Rattle.std.specs.Prelude.{◌≡◌, IfOk, option_copied};
-ghost use Rattle.fb_placing.specs.Cuts.{cuts_of, home_at, same_home};
 
-use crate::homes::Home;
-use crate::homes::table::home_table;
-use crate::plan::assigned_commands::push_links;
-use crate::plan::command_index::plain_links;
-use fb_network::{Flat, Link, Path};
+use crate::homes::block_homes::BlockHomes;
+use crate::numbers::number;
+use fb_network::{BlockNumbers, Flat, Link, Path, WrittenFlat};
 use std::alloc::{AllocError, Global};
 
-/// Whether two homes are the same.
-pub(crate) fn same_home(a: Option<&Path>, b: Option<&Path>) -> bool
-    ensures { result ≡ same_home (option_copied a.entry) (option_copied b.entry) }
-{
-    match (a, b) {
-        (None, None) => true,
-        (Some(a), Some(b)) => a.as_str() == b.as_str(),
-        _ => false,
+/// The number of the resource on which both ends of a link are.
+pub(crate) fn common_home(
+    homes: &BlockHomes<'_>,
+    numbers: &BlockNumbers,
+    flat: &Flat,
+    link: u32,
+) -> Option<u32> {
+    let (from, to) = flat.link_blocks(numbers, link)?;
+    let home = homes.home(from)?;
+    if homes.home(to)? == home {
+        Some(home)
+    } else {
+        None
     }
 }
 
+/// A link as a plain value.
+fn plain_link(alloc: Global, flat: &WrittenFlat<'_>, link: u32) -> Result<Link, AllocError> {
+    let (mut from, mut to) = (String::new(alloc), String::new(alloc));
+    let sort = flat.put_link(link as usize, &mut from, &mut to)?;
+    Ok(Link {
+        sort,
+        from: Path::of_parts(alloc, from.as_str(), "")?,
+        to: Path::of_parts(alloc, to.as_str(), "")?,
+    })
+}
+
 /// The links whose two homes differ, where blocks have these homes, in the order of the links.
-pub fn cuts_of(alloc: Global, homes: &[Home], flat: &Flat) -> Result<Vec<Link>, AllocError>
-    ensures { IfOk result (λ cuts. cuts.items ≡ cuts_of (home_at homes.now) flat.now.links) }
-{
-    let table = home_table(alloc, homes)?;
+pub fn cuts_of(
+    alloc: Global,
+    homes: &BlockHomes<'_>,
+    flat: &Flat,
+) -> Result<Vec<Link>, AllocError> {
+    let numbers = flat.block_numbers(alloc)?;
+    let written = flat.written()?;
     let mut cuts = Vec::new(alloc);
-    let mut commands = Vec::new(alloc);
-    push_links(alloc, &table, flat, &mut cuts, &mut commands)?;
-    plain_links(alloc, flat, &cuts)
+    for link in 0..number(flat.link_count())? {
+        if common_home(homes, &numbers, flat, link).is_none() {
+            cuts.push(plain_link(alloc, &written, link)?)?;
+        }
+    }
+    Ok(cuts)
 }

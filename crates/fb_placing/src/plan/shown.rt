@@ -1,70 +1,75 @@
 //! What a plan says. Its texts are written over texts that are used again.
-ghost use Rattle.std.specs.Prelude.{◌≡◌, ◌<◌, IfOk, OnOk, Some, length, slice_get, string_bytes};
-ghost use Rattle.fb_placing.specs.TextParts.{joined};
 
-use crate::plan::Plan;
-use crate::plan::command::Command;
-use crate::plan::command_index::{ResourceCommands, parts_of};
-use crate::plan::text_parts::{write_both, write_parts};
-use fb_network::{Flat, Path};
+use crate::plan::{Plan, ResourceCommands};
+use fb_network::{Path, WrittenFlat};
 use fb_tree::Sort;
-use std::alloc::AllocError;
-use std::marker::Model;
+use std::alloc::{AllocError, Global};
+
+/// A plan while its paths are written.
+#[derive(Drop)]
+pub struct WrittenPlan<'a> {
+    plan: &'a Plan,
+    flat: WrittenFlat<'a>,
+}
 
 /// A resource, as `DEVICE.RESOURCE`, with its commands in their order: a view into a plan.
-#[derive(Drop)]
+#[derive(Clone, Copy)]
 pub struct ResourcePlan<'a> {
-    flat: &'a Flat,
-    writes: &'a [Command],
+    flat: &'a WrittenFlat<'a>,
     resource: &'a ResourceCommands,
 }
 
-impl<'a> Model for ResourcePlan<'a> {
-    ghost use Rattle.fb_placing.specs.{PlainResource.{PlainResource}, CommandIndexes.{plain_resource}};
-
-    ghost Value = { PlainResource };
-
-    ghost view = { λ it. plain_resource it.flat.now it.writes.now it.resource.now };
-}
-
 impl<'a> ResourcePlan<'a> {
-    pub fn name(&self) -> &'a Path
-        ensures { result.now ≡ self.now.name }
-    {
+    pub fn name(&self) -> &'a Path {
         &self.resource.name
     }
 
     /// How many commands it has.
-    pub fn command_count(&self) -> usize
-        ensures { result ≡ length self.now.commands }
-    {
-        self.resource.items.len()
-    }
-
-    /// The parts of the text of a command.
-    pub(crate) fn parts(&self, place: usize) -> [&'a str; 6]
-        requires { place < length self.now.commands }
-        ensures { slice_get self.now.commands place ≡ Some (joined result) }
-    {
+    pub fn command_count(&self) -> usize {
         let it = self.resource;
-        parts_of(self.flat, self.writes, &it.name, it.items[place])
+        it.blocks.len() + it.writes.count() + it.links.len() + 1
     }
 
     /// Writes a command over a text.
-    pub fn put_command(&self, place: usize, text: &mut String) -> Result<(), AllocError>
-        requires { place < length self.now.commands }
-        ensures { OnOk result (slice_get self.now.commands place ≡ Some (string_bytes text.new)) }
-    {
-        write_parts(text, &self.parts(place))
+    pub fn put_command(&self, place: usize, text: &mut String) -> Result<(), AllocError> {
+        let it = self.resource;
+        text.clear();
+        let mut left = place;
+        if left < it.blocks.len() {
+            text.push_str("CREATE FB ")?;
+            return self.flat.push_block(it.blocks[left] as usize, text);
+        }
+        left -= it.blocks.len();
+        if left < it.writes.count() {
+            return text.push_str(it.writes.at(left));
+        }
+        left -= it.writes.count();
+        if left < it.links.len() {
+            text.push_str("CREATE CONNECTION ")?;
+            return self.flat.push_link(it.links[left] as usize, text);
+        }
+        text.push_str("START ")?;
+        text.push_str(it.name.as_str())
     }
 }
 
 impl Plan {
+    /// The plan with what its paths begin with.
+    pub fn written(&self) -> Result<WrittenPlan<'_>, AllocError> {
+        let flat = self.flat.written()?;
+        Ok(WrittenPlan { plan: self, flat })
+    }
+}
+
+impl WrittenPlan<'_> {
+    /// Where its texts are allocated.
+    pub fn allocator(&self) -> Global {
+        self.plan.allocator()
+    }
+
     /// How many links there are between resources.
-    pub fn cut_count(&self) -> usize
-        ensures { result ≡ length self.now.cuts }
-    {
-        self.cuts.len()
+    pub fn cut_count(&self) -> usize {
+        self.plan.cuts.len()
     }
 
     /// Writes the two places of a link between resources over texts, and gives its sort.
@@ -73,38 +78,20 @@ impl Plan {
         place: usize,
         from: &mut String,
         to: &mut String,
-    ) -> Result<Sort, AllocError>
-        requires { place < length self.now.cuts }
-        ensures { IfOk result (λ sort. slice_get self.now.cuts place ≡ Some (record {
-          sort = sort;
-          from = string_bytes from.new;
-          to = string_bytes to.new;
-        })) }
-    {
-        let link = self.cuts[place];
-        let (start, end) = self.flat.link_from(link);
-        write_both(from, start, end)?;
-        let (start, end) = self.flat.link_to(link);
-        write_both(to, start, end)?;
-        Ok(self.flat.link_sort(link))
+    ) -> Result<Sort, AllocError> {
+        self.flat.put_link(self.plan.cuts[place] as usize, from, to)
     }
 
     /// How many resources there are.
-    pub fn resource_count(&self) -> usize
-        ensures { result ≡ length self.now.resources }
-    {
-        self.resources.len()
+    pub fn resource_count(&self) -> usize {
+        self.plan.resources.len()
     }
 
     /// The resource of that number, in the order of the text.
-    pub fn resource(&self, place: usize) -> ResourcePlan<'_>
-        requires { place < length self.now.resources }
-        ensures { slice_get self.now.resources place ≡ Some result }
-    {
+    pub fn resource(&self, place: usize) -> ResourcePlan<'_> {
         ResourcePlan {
             flat: &self.flat,
-            writes: &self.writes,
-            resource: &self.resources[place],
+            resource: &self.plan.resources[place],
         }
     }
 }
