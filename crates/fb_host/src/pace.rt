@@ -1,5 +1,5 @@
 //! The pace of sessions: a seat that commits faster than the workers settle keys waits for them, and a key that a session lets go is the workers' first.
-ghost use Rattle.std.specs.Prelude.{◌≡◌, ◌≢◌, ◌+◌, ◌-◌, ◌<◌, ◌^◌, ◌==◌, ◌↔◌, IfOk, IsTrue, Some, if◌then◌else◌, replicate, slice_get};
+ghost use Rattle.std.specs.Prelude.{◌≡◌, ◌≢◌, ◌+◌, ◌==◌, ◌↔◌, IfOk, IsTrue, Some, if◌then◌else◌, replicate, slice_get};
 ghost use Rattle.fb_host.specs.Pace.{IsCounted, MayCommit, no_commits, with_one_more};
 
 use fb_shared::Shared;
@@ -36,7 +36,7 @@ impl RecentCommits {
 
     /// With one more commit.
     fn then(self, rests: u64) -> RecentCommits
-        ensures { self.count < 2 ^ 64 - 1 → result ≡ with_one_more self rests }
+        ensures { MayCommit self rests → result ≡ with_one_more self rests }
     {
         let before = if self.rests == rests { self.count } else { 0 };
         RecentCommits {
