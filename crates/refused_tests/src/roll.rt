@@ -27,7 +27,8 @@ impl Trial for Rolled {
     }
 
     fn call(&mut self, _alloc: Global) -> bool {
-        self.locked.make_room(self.limits, false) != Err(CheckpointRefused::Memory)
+        let made = self.locked.make_room(self.limits, false);
+        !matches!(made, Err(CheckpointRefused::Memory))
     }
 
     fn told(&self, alloc: Global) -> Result<String, Fail> {
