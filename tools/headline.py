@@ -60,7 +60,7 @@ ITEM = re.compile(r"(?:abbrev |unfoldable )?(?:pub )?(record |data )?([^\s:(){}]
 WORD = re.compile(r"(?<![\w'.])((?:[A-Za-z_][\w'-]*\.)*[A-Za-z_][\w'-]*|◌[^\s◌]+◌)")
 MODULE = re.compile(r"(?:pub )?use ([\w.]+)(?: as (\w+))?$")
 BLOCK = re.compile(r"(?:(?:abbrev |unfoldable )?mutual|module _ .*where)$")
-WORDS = {"abbrev", "pub", "record", "data", "where", "let", "in", "if", "then", "else", "Type", "use", "unfoldable", "module", "λ"}
+WORDS = set("abbrev pub record data where let in if then else Type use mod infix infixl infixr unfoldable module λ".split())
 
 
 @dataclass(eq=False)
@@ -111,48 +111,46 @@ def indents(lines):
         yield "  " if inside else ""
 
 
-def begins(lines, at, indent, current):
+def begins(line, indent, current):
     """The head of the definition that begins in a line, if one does: no equation of the one above it, no import."""
-    line = lines[at]
-    if not line.startswith(indent) or line[len(indent) :][:1] in ("", " ", "-", "}"):
+    head = ITEM.match(line.removeprefix(indent)) if line.startswith(indent) else None
+    if not head or head[2].startswith("-") or head[2] in WORDS or head[2] == current:
         return None
-    head = ITEM.match(line[len(indent) :])
-    if not head or head[2] in WORDS or head[2] == current or line.strip().startswith(("use ", "pub use ", "pub mod ", "mod ", "infix")):
-        return None
-    return head if re.search(r" : |\) :| :$| where$", line) or head[1] else None
+    return head if head[1] or re.search(r" : |\) :| :$| where$", line) else None
+
+
+def heads_in(lines):
+    """The definitions that begin in lines: each with its place, by how much it is set in, and its head."""
+    current = None
+    for at, (line, indent) in enumerate(zip(lines, indents(lines))):
+        if head := begins(line, indent, current) or begins(line, "", current):
+            current = head[2]
+            yield at, indent, head
 
 
 @functools.cache
 def read(path):
     """The definitions of a file, and what it imports."""
-    lines = parts.text_of(path).split("\n")
-    names, modules = imports(lines)
-    found, heads, current = {}, [], None
-    ahead = list(indents(lines))
-    for at in range(len(lines)):
-        for indent in {ahead[at], ""}:
-            if head := begins(lines, at, indent, current):
-                current = head[2]
-                heads.append((at, head))
-                break
-    for (at, head), (end, _) in zip(heads, [*heads[1:], (len(lines), None)]):
+    lines, found = parts.text_of(path).split("\n"), {}
+    heads = list(heads_in(lines))
+    for (at, indent, head), end in zip(heads, [*(it[0] for it in heads[1:]), len(lines)]):
         above, behind = at, end
         while above > 0 and lines[above - 1].strip().startswith("-- ") and "----" not in lines[above - 1]:
             above -= 1
         while behind > at + 1 and (not lines[behind - 1].strip() or lines[behind - 1].strip().startswith("--") or BLOCK.match(lines[behind - 1])):
             behind -= 1
-        members = members_of(head[1], lines[at + 1 : behind], ahead[at])
+        members = members_of(head[1], lines[at + 1 : behind], indent)
         found[head[2]] = Definition(path, at + 1, head[2], textwrap.dedent("\n".join(lines[above:behind])), members)
-    return File(found, names, modules)
+    return File(found, *imports(lines))
 
 
+@functools.cache
 def rust_item(crate, name):
     """A type or a constant of the program, as a definition."""
     for path in parts.files(f"crates/{crate}/src/**/*.rt"):
         text = parts.text_of(path)
         if found := re.search(rf"(?:^///[^\n]*\n|^#\[[^\n]*\n)*^pub(?:\(crate\))? (?:const {name}\b[^;]*;|(?:enum|struct) {name}\b[^\n;]*(?:;|\{{\n.*?^\}}))", text, re.M | re.S):
-            line = text[: found.end() - len(found[0])].count("\n") + 1
-            return Definition(path, line, name, found[0])
+            return Definition(path, text.count("\n", 0, found.start()) + 1, name, found[0])
     return None
 
 
@@ -167,11 +165,8 @@ def module(path):
         return (crate, next(it for it in reversed(rest) if it not in ("TheVariants", "TheOpen", "TheFolds")))
     if rest and os.path.exists(f"{parts.TOP}/crates/{crate}/specs/{rest[0]}.antt"):
         return f"crates/{crate}/specs/{rest[0]}.antt"
-    if rest:
-        modules = read(f"crates/{crate}/specs/Lib.antt").modules
-        if rest[0] in modules:
-            return module(".".join([modules[rest[0]], *rest[1:]]))
-    return None
+    other = read(f"crates/{crate}/specs/Lib.antt").modules.get(rest[0]) if rest else None
+    return module(".".join([other, *rest[1:]])) if other else None
 
 
 @functools.cache
@@ -196,21 +191,19 @@ def in_file(path, name):
 @functools.cache
 def rust_trait(name):
     """A trait of the program with what its required methods ensure, as a definition that cites theirs; None if it is the kit's."""
-    for path in parts.files("crates/*/src/**/*.rt"):
-        found = re.search(rf"(?:^//[^\n]*\n)*^pub trait {name}\b[^\n]*\{{\n(.*?)^\}}", parts.text_of(path), re.M | re.S)
-        if not found:
-            continue
-        text = parts.text_of(path)
-        methods = [it for it in parts.functions(path.split("/")[1]) if it.owner == name and it.file == path]
-        inside = found[0]
-        for it in methods:
-            if it.body.strip():
-                inside = inside.replace("\n".join([it.signature, it.contract, it.body]), "")
-        inside = re.sub(r"\n(?: *///[^\n]*\n)+(?=\n*(?:\n *///|\}))", "\n", re.sub(r"^ *ghost use [^\n]*\n", "", inside, flags=re.M))
-        uses = methods[0].uses if methods else {}
-        cites = [its for word in WORD.findall(inside) if (to := uses.get(word)) and (its := defined(to, word))]
-        return Definition(path, text[: found.end() - len(found[0])].count("\n") + 1, name, re.sub(r"\n{2,}(?=\}|\n)|(?<=\{)\n+", "\n", inside), cites=cites)
-    return None
+    methods = [it for crate in parts.crates() for it in parts.functions(crate) if it.owner == name and it.block.startswith(f"pub trait {name}")]
+    if not methods:
+        return None
+    path, uses = methods[0].file, methods[0].uses
+    found = re.search(rf"(?:^//[^\n]*\n)*{re.escape(methods[0].block)}", parts.text_of(path), re.M)
+    inside = found[0]
+    for it in methods:
+        if it.body.strip():
+            inside = inside.replace("\n".join([it.signature, it.contract, it.body]), "")
+    inside = re.sub(r"\n(?: *///[^\n]*\n)+(?=\n*(?:\n *///|\}))", "\n", re.sub(r"^ *ghost use [^\n]*\n", "", inside, flags=re.M))
+    cites = [its for word in WORD.findall(inside) if (to := uses.get(word)) and (its := defined(to, word))]
+    line = found.string.count("\n", 0, found.start()) + 1
+    return Definition(path, line, name, re.sub(r"\n{2,}(?=\}|\n)|(?<=\{)\n+", "\n", inside), cites=cites)
 
 
 def displayed(it, is_open=False):
@@ -248,17 +241,16 @@ def cited(crate, name):
 
 def ordered(roots, left_open=()):
     """All that these definitions rest on, each after those that it uses."""
-    done, order = set(), []
-    stack = [(it, False) for it in reversed(roots)]
-    while stack:
-        it, is_after = stack.pop()
-        key = (it.path, it.name)
-        if is_after:
-            order.append(it)
-        elif key not in done:
-            done.add(key)
-            stack.append((it, True))
-            stack.extend((its, False) for its in reversed(uses_of(it, it.title in left_open)) if (its.path, its.name) not in done)
+    seen, order = set(), []
+
+    def add(some):
+        for it in some:
+            if it not in seen:
+                seen.add(it)
+                add(uses_of(it, it.title in left_open))
+                order.append(it)
+
+    add(roots)
     return order
 
 
@@ -313,8 +305,8 @@ def layers():
     for page in PAGES:
         left_open = {it for it, home in OPEN.items() if home != page.name}
         whole = ordered([it for call in page.calls for it in cited(*call)], left_open)
-        new = [it for it in whole if (it.path, it.name) not in above and (it.title not in left_open or page is PAGES[0])]
-        above |= {(it.path, it.name) for it in new if it.title not in left_open}
+        new = [it for it in whole if it not in above and (it.title not in left_open or page is PAGES[0])]
+        above |= {it for it in new if it.title not in left_open}
         found.append(Layer(page, whole, new, left_open))
     return found
 
