@@ -31,7 +31,7 @@ class Function:
         return f"{self.owner}::{self.name}" if self.owner else self.name
 
 
-@dataclass
+@dataclass(eq=False)
 class Edit:
     crate: str
     folder: str
@@ -42,7 +42,7 @@ class Edit:
     promise: str
 
 
-@dataclass
+@dataclass(eq=False)
 class Item:
     """A function, a constant or a type of a crate of tests: its text, from what file of the crate its names come, and which come from the crates that are tested."""
 
@@ -76,6 +76,16 @@ def line_of(path, name):
     lines, has = text_of(path).split("\n"), rf"\b{re.escape(name)}\b"
     defines = rf"\b(?:fn|struct|enum|trait|const|static|abbrev|unfoldable|record|data|def)\s+(?:pub\s+)?{re.escape(name)}\b"
     return next((number for form in (defines, has) for number, line in enumerate(lines, 1) if re.search(form, line)), None)
+
+
+def reached(start, following):
+    """These things, those that follow them, and so on, in the order in which they are found."""
+    found, todo = dict.fromkeys(start), list(start)
+    while todo:
+        new = dict.fromkeys(it for it in following(todo.pop()) if it not in found)
+        found |= new
+        todo += new
+    return found
 
 
 @functools.cache
@@ -113,15 +123,14 @@ def end_of_body(lines, at, indent):
 
 def listed(module, items):
     """The names in the braces of an import, each with its module: `M.{a}` is the name `a` of the module M below this one."""
-    depth, item = 0, ""
-    for letter in items + ",":
-        depth += (letter == "{") - (letter == "}")
-        if letter != "," or depth:
-            item += letter
-            continue
-        inner = re.match(r"\s*([\w.]+)\.\{(.*)\}\s*$", item)
-        yield from listed(f"{module}.{inner[1]}", inner[2]) if inner else [(module, item.strip())]
-        item = ""
+    modules = [module]
+    for name, sign in re.findall(r"\s*([^{},]*?)\s*(\.\{|[,}]|$)", items):
+        if sign == ".{":
+            modules.append(f"{modules[-1]}.{name}")
+        elif name:
+            yield modules[-1], name
+        if sign == "}":
+            modules.pop()
 
 
 def imports_in(line):
@@ -202,16 +211,10 @@ def variants(crate, enum):
 @functools.cache
 def memory_types():
     """The types that can say that there was no memory."""
-    found, grows = {"AllocError"}, True
     all_types = [(name, *it) for crate in crates() for name, it in types(crate).items()]
-    for name, word, body in all_types:
-        if word == "enum" and re.search(r"^    Memory,", body, re.M):
-            found.add(name)
-    while grows:
-        more = {name for name, word, body in all_types if word == "struct" and any(re.search(rf"\bfault: {it}\b", body) for it in found)}
-        grows = not more <= found
-        found |= more
-    return found
+    enums = [name for name, word, body in all_types if word == "enum" and re.search(r"^    Memory,", body, re.M)]
+    structs = [(name, body) for name, word, body in all_types if word == "struct"]
+    return set(reached(["AllocError", *enums], lambda fault: [name for name, body in structs if re.search(rf"\bfault: {fault}\b", body)]))
 
 
 def wants_memory(it):
@@ -372,7 +375,7 @@ def test_items(crate):
 @functools.cache
 def tests():
     """Each test of the crates of tests, with all items of its crate that it uses."""
-    return [(it, closure(it)) for crate in crates() if crate.endswith("_tests") for it in test_items(crate) if it.is_test]
+    return [(it, reached([it], used_by)) for crate in crates() if crate.endswith("_tests") for it in test_items(crate) if it.is_test]
 
 
 @functools.cache
@@ -393,13 +396,3 @@ def used_by(item):
         yield from by_place.get((item.inside.get(word, item.file), word), [])
         for file in imported_files:
             yield from (it for it in by_place.get((file, word), []) if it.text.startswith("impl"))
-
-
-def closure(test):
-    items, todo = {id(test): test}, [test]
-    while todo:
-        for it in used_by(todo.pop()):
-            if id(it) not in items:
-                items[id(it)] = it
-                todo.append(it)
-    return list(items.values())

@@ -62,19 +62,14 @@ def below(number):
 
 
 @functools.cache
-def row_of_call(call):
-    """The row of the page of what is shown that names a call, which says how tests make it."""
-    named = [it for it in shown.rows("call") if it.crate == call[0] and call[1] in it.names]
-    return named[0] if named else shown.Row("call", call[0], [call[1]], {})
-
-
-@functools.cache
-def tests_of_call(call):
-    return shown.tests_of(parts.function(*call), row_of_call(call))
+def tests_of_call(crate, name):
+    """The tests of a call. Its row of the page of what is shown, if it has one, says how tests make it."""
+    rows = (it for it in shown.rows("call") if it.crate == crate and name in it.names)
+    return shown.tests_of(parts.function(crate, name), next(rows, shown.Row("call", crate, [name], {})))
 
 
 def tests_of(number):
-    return {(it.crate, it.file, it.name): it for call in calls_of(number) for it in tests_of_call(call)}.values()
+    return {it for call in calls_of(number) for it in tests_of_call(*call)}
 
 
 # ---- the block of a promise
@@ -136,8 +131,8 @@ def all_promises():
     for number, title in titles().items():
         anchor = f"{number}-{title}".lower().replace(" ", "-")
         folders = Counter(it.folder for it in edits_of(number))
-        new = [it for it in below(number) if (it.path, it.name) not in above]
-        above |= {(it.path, it.name) for it in new}
+        new = [it for it in below(number) if it not in above]
+        above.update(new)
         read = (len(below(number)), *(headline.lines_of(map(headline.displayed, it)) for it in (below(number), new)))
         rows.append([f"[{number} {title}](#{anchor})", *(f"{it:,}" for it in (*read, len(laws_of(number)), *(folders[it] for it in parts.FOLDERS), len(tests_of(number))))])
     return parts.table(["Promise", "Definitions", "Lines", "Lines in no row above", "Laws", "Wrong bodies in the gate", "outside the gate", "Tests"], rows)

@@ -2,7 +2,7 @@
 import functools
 import os
 import re
-from collections import Counter, defaultdict
+from collections import Counter
 from dataclasses import dataclass
 
 import code_parts as parts
@@ -194,30 +194,16 @@ def sends(request, item):
     return request in item.words and bool(re.search(rf'^> {request}\b|"op":"{request}"', item.text, re.M))
 
 
-@functools.cache
-def users():
-    """The items of the crates of tests under each of their words, and the places of the tests that use an item by its id."""
-    by_word, by_item = defaultdict(list), defaultdict(list)
-    for item in (it for crate in parts.crates() if crate.endswith("_tests") for it in parts.test_items(crate)):
-        for word in item.words:
-            by_word[word].append(item)
-    for at, (_, items) in enumerate(parts.tests()):
-        for item in items:
-            by_item[id(item)].append(at)
-    return by_word, by_item
-
-
-def tests_that(holds, words, row):
-    """The tests that use an item with one of these words of which this holds, and those that the row names."""
-    by_word, by_item = users()
-    having = {at for word in words for item in by_word.get(word, []) if holds(item) for at in by_item.get(id(item), [])}
+def tests_that(holds, row):
+    """The tests that use an item of which this holds, and those that the row names."""
+    having = {it for crate in parts.crates() if crate.endswith("_tests") for it in parts.test_items(crate) if holds(it)}
     named = set(row.has("tests"))
-    return [it for at, (it, _) in enumerate(parts.tests()) if at in having or named and names_of(it) & named]
+    return [it for it, items in parts.tests() if not having.isdisjoint(items) or named and names_of(it) & named]
 
 
 def tests_of(call, row):
     calls, requests = [call, *(parts.all_functions()[it] for it in row.has("through"))], row.has("lines")
-    return tests_that(lambda item: any(makes(it, item) for it in calls) or any(sends(it, item) for it in requests), [*(it.name for it in calls), *requests], row)
+    return tests_that(lambda item: any(makes(it, item) for it in calls) or any(sends(it, item) for it in requests), row)
 
 
 @functools.cache
@@ -252,12 +238,12 @@ def counted(counts, absent):
 
 
 def count_edits(edits):
-    by_folder = Counter(folder for _, folder, _ in {(it.crate, it.folder, it.name) for it in edits})
+    by_folder = Counter(it.folder for it in set(edits))
     return {"in the gate": by_folder[parts.FOLDERS[0]], "outside the gate": by_folder[parts.FOLDERS[1]]}
 
 
 def count_tests(tests):
-    return Counter(f"of `{crate}`" for crate, _, _ in sorted({(it.crate, it.file, it.name) for it in tests}))
+    return Counter(f"of `{crate}`" for crate in sorted(it.crate for it in set(tests)))
 
 
 def again(row):
@@ -314,7 +300,7 @@ def refused_row(row, gaps):
     enum, _, variant = row.names[0].partition(".")
     has = re.compile(rf"\b{enum}::{variant}\b|\b(?:refused|delivered|answer)\\?\":\\?\"{variant}\\?\"")
     edits = edits_that(lambda it: has.search(it.text), row)
-    tests = tests_that(lambda item: has.search(item.text), [variant], row)
+    tests = tests_that(lambda item: variant in item.words and has.search(item.text), row)
     places = [place_of(it) for it in row.has("defined")] or parts.defining(enum, variant)
     note(gaps, row, edits, tests, places)
     return [
@@ -342,7 +328,7 @@ def file_of(crate, folder, stem):
 def code_row(row, gaps):
     (word,), calls = row.names, [parts.function(*it) for it in row.calls()]
     edits = edits_that(lambda it: any(f"`{call.name}`" in it.cell for call in calls), row)
-    tests = list({(it.crate, it.file, it.name): it for it in tests_that(None, (), row)}.values())
+    tests = tests_that(lambda _: False, row)
     note(gaps, row, edits, tests)
     places = {"oracle": ORACLE, "plain": parts.files(f"{PLAIN}/faults/*.rs")}
     written = [name for name, paths in places.items() if any(f'"{word}"' in parts.text_of(it) for it in paths)]
@@ -359,7 +345,7 @@ def code_row(row, gaps):
 
 
 def limit_row(row, gaps):
-    edits, tests = edits_that(lambda _: False, row), tests_that(None, (), row)
+    edits, tests = edits_that(lambda _: False, row), tests_that(lambda _: False, row)
     note(gaps, row, edits, tests)
     return [
         row.names[0],
@@ -388,10 +374,6 @@ MAKERS = {"call": call_row, "refused": refused_row, "limit": limit_row, "code": 
           "gap": lambda row, _: [row.names[0], quoted(row.has("without")), ", ".join(row.has("why"))]}
 
 
-def lines_of(kind, some, gaps):
-    return [MAKERS[kind](it, gaps) for it in some if it.kind == kind]
-
-
 @functools.cache
 def made():
     """The page, whose first part is written by hand, and under each kind of gap what has it."""
@@ -401,7 +383,8 @@ def made():
         kind = some[0].kind
         if kind == "promise":
             continue
-        text += ["", f"## {heading}", "", *([CODES, ""] if kind == "code" else []), parts.table(COLUMNS[kind], lines_of(kind, some, gaps), "---").rstrip("\n")]
+        lines = [MAKERS[kind](it, gaps) for it in some if it.kind == kind]
+        text += ["", f"## {heading}", "", *([CODES, ""] if kind == "code" else []), parts.table(COLUMNS[kind], lines, "---").rstrip("\n")]
     text += ["", "## In all", "", total()]
     return "\n".join(text) + "\n", gaps
 
