@@ -3,7 +3,7 @@
 shown(library, name) is the net of a subapplication or a system as a reply has it."""
 from collections import defaultdict
 
-from oracle import first
+from oracle import first, reached
 
 SORTS = ["event", "data", "adapter"]
 
@@ -69,13 +69,8 @@ class Held:
 
     def ends(self, sort, place):
         """The outer places that chains from this one reach."""
-        seen, waiting = set(), list(self.steps[sort, place])
-        while waiting:
-            end = waiting.pop()
-            if end not in seen:
-                seen.add(end)
-                waiting += [] if self.is_outer(end) else self.steps[sort, end]
-        return {end for end in seen if self.is_outer(end)}
+        found = reached(self.steps[sort, place], lambda end: [] if self.is_outer(end) else self.steps[sort, end])
+        return {end for end in found if self.is_outer(end)}
 
     def links(self):
         for sort, start, end in self.chains():

@@ -206,10 +206,10 @@ class Parser:
                 self.need(it)
         return found
 
-    def separated(self, one):
-        """One or more of these, with commas between them."""
+    def separated(self, one, by=","):
+        """One or more of these, with commas or this word between them."""
         found = [one()]
-        while self.try_(","):
+        while self.try_(by):
             found.append(one())
         return found
 
@@ -418,10 +418,7 @@ class Parser:
         return [self.inner(k)] if self.try_("ELSE") else []
 
     def if_(self, k):
-        parts = [self.form("expr THEN inner", k)]
-        while self.try_("ELSIF"):
-            parts.append(self.form("expr THEN inner", k))
-        conds, bodies = zip(*parts)
+        conds, bodies = zip(*self.separated(lambda: self.form("expr THEN inner", k), "ELSIF"))
         return statement("if", conds, [*bodies, *self.otherwise(k)])
 
     def case_(self, k):
@@ -460,9 +457,7 @@ class Parser:
     # -- expressions
     def ref(self, k):
         """Names with subscripts or without."""
-        steps = [self.step(k)]
-        while self.try_("."):
-            steps.append(self.step(k))
+        steps = self.separated(lambda: self.step(k), ".")
         return Bag(form="ref", steps=steps, start=steps[0].name.start, end=steps[-1].end)
 
     def step(self, k):
