@@ -11,8 +11,11 @@ TABLES = json.loads(Path(__file__).with_name("generate.json").read_text())
 UNITS, PORTS, INSTS, STATES, ALGS = (TABLES[it] for it in ("units", "ports", "insts", "states", "algs"))
 ODD, WORDS, SYMS, ELEMENTARY_NAMES = (TABLES[it] for it in ("odd", "words", "syms", "elementary_names"))
 TYPES, LITERALS = [it.split() for it in TABLES["types"]], TABLES["literals"]
-ALL_LITERALS = [x for v in LITERALS.values() for x in v]
 LONG64, LONG65 = "L" * 64, "L" * 65
+HEADS = {"basic": "FUNCTION_BLOCK", "composite": "FUNCTION_BLOCK", "adapter": "ADAPTER", "subapp": "SUBAPPLICATION", "system": "SYSTEM", "structure": "TYPE"}
+# The classes of constants that a place of each class gets, one as often as it is named.
+NEAR = {"B": ["B", "B", "Any"], "I": ["I", "Num", "Any"], "W": ["W", "Num", "Any"], "O": ["O", "O", "I", "Num", "Any"], "Num": ["Num"], "Any": ["Any"],
+        "Free": list(LITERALS)}
 
 
 def type_class(ty):
@@ -110,15 +113,9 @@ class Gen:
         good = [n for n in present if self.plan[n]["kind"] == "structure"]
         if name in good and not self.bad(0.3):
             good = good[good.index(name) + 1:]
-        x = self.r.random()
-        n = self.pick(present) if self.bad(0.5) else self.pick(UNITS + ["NOPE"])
-        n = self.pick(good) if good and x < 0.75 else n
-        x = self.r.random()
-        if x < 0.55:
-            return [n]
-        if x < 0.9:
-            return ["ARRAY", "[", "0", "..", "1"] + self.pick([[], [",", "0", "..", "2"]]) + ["]", "OF", n]
-        return [n, "[", "3", "]"]
+        n = self.pick(good if good and self.chance(0.75) else present if self.bad(0.5) else UNITS + ["NOPE"])
+        array = ["ARRAY", "[", "0", "..", "1", *self.pick([[], [",", "0", "..", "2"]]), "]", "OF", n]
+        return self.pick([[n], [n], [n], array, array, [n, "[", "3", "]"]])
 
     def of_role(self, role):
         """The units that an instance of this role may have as its type."""
@@ -149,9 +146,7 @@ class Gen:
     # -- texts
     def text(self, name):
         p = self.plan[name]
-        k = p["kind"]
-        word = {"basic": "FUNCTION_BLOCK", "composite": "FUNCTION_BLOCK", "adapter": "ADAPTER",
-                "subapp": "SUBAPPLICATION", "system": "SYSTEM", "structure": "TYPE"}[k]
+        k, word = p["kind"], HEADS[p["kind"]]
         said = name if not self.bad(0.05) else self.pick(UNITS + [LONG64])
         body = self.system(p) if k == "system" else self.fields(p) if k == "structure" else self.sections(p)
         toks = [word, said] + body + ["END_" + word]
@@ -167,23 +162,13 @@ class Gen:
         return text
 
     def mutate(self, toks):
+        """The tokens with one left out, changed, doubled or put in, or without all from one on."""
         if not toks:
             return toks
-        i = self.r.randrange(len(toks))
-        how = self.several(0, 6)
-        if how == 0:
-            return toks[:i] + toks[i + 1:]
-        if how == 3:
-            return toks[:i]
-        if how == 4:
-            return toks[:i] + [toks[i]] + toks[i:]
-        if how == 5:
-            j = self.r.randrange(len(toks))
-            toks = list(toks)
-            toks[i], toks[j] = toks[j], toks[i]
-            return toks
-        odd = self.pick(WORDS + SYMS + ODD + [LONG65] * (how == 2))
-        return toks + [odd] if how == 6 else toks[:i] + [odd] + toks[i + (how == 2):]
+        i, odd = self.r.randrange(len(toks)), self.pick(WORDS + SYMS + ODD + [LONG65])
+        first, after, other = toks[:i], toks[i + 1:], self.pick(toks)
+        return self.pick([first, first + after, first + [odd] + after, first + [other] + after, first + [odd] + toks[i:], first + [toks[i]] + toks[i:],
+                          toks + [odd]])
 
     def join(self, toks):
         r, out, last = self.r, [], ""
@@ -262,20 +247,17 @@ class Gen:
     def vardecls(self, items):
         out = []
         while items:
-            n = 2 if len(items) > 1 and self.chance(0.15) else 1
-            ty = items[0][1]
-            names = [i[0] for i in items[:n]]
+            n, ty = 2 if self.chance(0.15) else 1, items[0][1]
+            initial = [":=", *self.constant(ty)] if self.chance(0.35) else []
+            out.append([*self.commas([[name] for name, _ in items[:n]]), ":", *ty, *initial, ";"])
             items = items[n:]
-            d = self.commas([[x] for x in names]) + [":"] + ty
-            if self.chance(0.35):
-                d += [":="] + self.constant(ty)
-            out.append(d + [";"])
         return out
 
+    def literal(self, cls):
+        return self.pick(LITERALS[self.pick(NEAR[cls])])
+
     def simple(self, cls):
-        if self.bad(0.25):
-            cls = self.pick(list(LITERALS))
-        c = self.pick(LITERALS[cls])
+        c = self.literal("Free" if self.bad(0.25) else cls)
         if c[0].isdigit() and self.chance(0.2):
             return [self.pick("+-"), c]
         if self.chance(0.06):
@@ -285,39 +267,26 @@ class Gen:
     def constant(self, ty):
         el = type_element(ty)
         if (el is not None) == (not self.bad(0.15)):
-            c = el or "I"
-            return ["["] + self.commas([self.simple(self.near(c)) for _ in range(self.several(1, 3))]) + ["]"]
-        return self.simple(self.near(type_class(ty)))
-
-    def near(self, c):
-        return self.pick({"B": ["B", "B", "Any"], "I": ["I", "Num", "Any"], "W": ["W", "Num", "Any"],
-                          "O": ["O", "O", "I", "Num", "Any"], "Free": list(LITERALS)}[c])
+            return ["["] + self.commas([self.simple(el or "I") for _ in range(self.several(1, 3))]) + ["]"]
+        return self.simple(type_class(ty))
 
     def inst_sections(self, insts):
         out = []
-        for role, kw in (("plug", "PLUGS"), ("socket", "SOCKETS"), ("fb", "FBS"), ("sub", "SUBAPPS")):
-            items = []
-            for n, ro, ty in insts:
-                if ro == role:
-                    d = [n, ":", ty]
-                    if role != "sub" and self.chance(0.45 if role == "fb" else 0.1):
-                        d += self.params(ty)
-                    items.append(d + [";"])
+        for role, kw, often in (("plug", "PLUGS", 0.1), ("socket", "SOCKETS", 0.1), ("fb", "FBS", 0.45), ("sub", "SUBAPPS", 0)):
+            items = [[n, ":", ty, *(self.params(ty) if self.chance(often) else []), ";"] for n, ro, ty in insts if ro == role]
             if items or (role == "fb" and self.chance(0.02)):
                 out += self.split(kw, items, "END_" + kw)
         return out
 
     def params(self, ty):
-        vs = [v for v in self.plan.get(ty, {"vars": []})["vars"]]
-        good = [v for v in vs if v[1] == "in"]
-        out = []
-        for _ in range(self.several(1, 3)):
-            if not good and not self.bad(1):
-                return []
-            v = self.pick(good) if good and not self.bad(0.2) else self.pick(vs) if vs and self.chance(0.4) else None
-            n, t = (v[0], v[2]) if v else (self.pick(PORTS), self.pick(TYPES))
-            out.append([n, ":="] + self.constant(t))
-        return ["("] + self.commas(out) + [")"]
+        """Values for some inputs of a type, now and then for other names."""
+        variables, out = self.plan[ty]["vars"] if ty in self.plan else [], []
+        inputs = [v for v in variables if v[1] == "in"]
+        for _ in range(self.several(1, 3) if inputs or self.bad(1) else 0):
+            others = [*variables, *[(self.pick(PORTS), "in", self.pick(TYPES))] * 2]
+            n, _, t = self.pick(inputs if inputs and not self.bad(0.3) else others)
+            out.append([n, ":=", *self.constant(t)])
+        return ["(", *self.commas(out), ")"] if out else []
 
     # -- connections
     def ports(self, p, sort):
@@ -407,64 +376,36 @@ class Gen:
 
     # -- charts
     def chart(self, p):
-        states = self.distinct(STATES, 1, 4)
-        algs = self.distinct(ALGS, 0, 3)
-        out, items = [], []
-        for s in states:
-            acts = []
-            for _ in range(self.several(0, 2)):
-                x = self.r.random()
-                a = [self.pick(algs) if algs and not self.bad(0.2) else self.pick(ALGS)]
-                e = ["->"] + self.chart_event(p, "out")
-                acts.append(a if x < 0.3 else e if x < 0.5 else a + e)
-            items.append([s] + ([":"] + self.commas(acts) if acts else []) + [";"])
-        if not self.bad(0.05):
-            out += self.split("EC_STATES", items, "END_STATES")
-        items = []
-        for _ in range(self.several(0, 4)):
-            ab = [self.pick(states) if not self.bad(0.1) else self.pick(STATES) for _ in "ab"]
-            items.append([ab[0], "TO", ab[1], ":="] + self.cond(p) + [";"])
-        out += self.split("EC_TRANSITIONS", items, "END_TRANSITIONS")
-        for a in algs:
-            out.append(self.algorithm(p, a))
-        return out
+        states, algs = self.distinct(STATES, 1, 4), self.distinct(ALGS, 0, 3)
+        items = [[s, *self.actions(p, algs), ";"] for s in states]
+        out = [] if self.bad(0.05) else self.split("EC_STATES", items, "END_STATES")
+        ends = [[self.pick(STATES if self.bad(0.1) else states) for _ in "ab"] for _ in range(self.several(0, 4))]
+        items = [[a, "TO", b, ":=", *self.cond(p), ";"] for a, b in ends]
+        return out + self.split("EC_TRANSITIONS", items, "END_TRANSITIONS") + [self.algorithm(p, a) for a in algs]
+
+    def actions(self, p, algs):
+        """The actions of a state, each with an algorithm, an event or both."""
+        acts = []
+        for _ in range(self.several(0, 2)):
+            alg, event = self.pick(ALGS if not algs or self.bad(0.2) else algs), ["->", *self.chart_event(p, "to")]
+            acts.append(self.pick([[alg], event, [alg, *event], [alg, *event]]))
+        return [":", *self.commas(acts)] if acts else []
 
     def chart_event(self, p, side):
-        good = [[n] for n, s in p["events"] if s == side]
-        bad = [[n] for n, s in p["events"] if s != side]
-        for n, ro, ty in p["insts"]:
-            for m, s in self.plan.get(ty, {"events": []})["events"]:
-                (good if (s == side) == (ro == "plug") else bad).append([n, ".", m])
-        x = self.r.random() if self.bad(1) else 0
-        if good and x < 0.7:
-            return self.pick(good)
-        if bad and x < 0.85:
-            return self.pick(bad)
-        return [self.pick(PORTS)] if self.chance(0.5) else [self.pick(INSTS), ".", self.pick(PORTS)]
+        """An event that goes out of the unit by its chart ("to"), or comes in."""
+        end = self.an_end(self.ends(p, p["insts"], "block", "event"), side, (), [])
+        return end[0] if end else [self.pick(PORTS)]
 
     def cond(self, p):
-        x = self.r.random()
         self.scope = self.variables(p)
-        e = self.chart_event(p, "in")
-        if x < 0.12:
-            return ["1"]
-        if x < 0.35:
-            return e
-        g = self.expr("B", self.several(0, 2))
-        if x < 0.6:
-            return e + ["["] + g + ["]"]
-        if x < 0.8:
-            return e + [self.pick(["&", "AND"])] + g
-        return ["["] + g + ["]"]
+        event, guard = self.chart_event(p, "from"), self.expr("B", self.several(0, 2))
+        both = [[*event, "[", *guard, "]"], [*event, "[", *guard, "]"], [*event, "&", *guard], [*event, "AND", *guard]]
+        return self.pick([["1"], event, event, *both, ["[", *guard, "]"]])
 
     # -- algorithms
     def variables(self, p):
-        out = [([n], t) for n, _, t in p["vars"]]
-        for n, ro, ty in p["insts"]:
-            if ro not in ("plug", "socket") and not self.bad(0.3):
-                continue
-            out += [([n, ".", v[0]], v[2]) for v in self.plan.get(ty, {"vars": []})["vars"]]
-        return out
+        parts = [(n, ty) for n, ro, ty in p["insts"] if ty in self.plan and (ro in ("plug", "socket") or self.bad(0.3))]
+        return [([n], t) for n, _, t in p["vars"]] + [([n, ".", m], t) for n, ty in parts for m, _, t in self.plan[ty]["vars"]]
 
     def algorithm(self, p, a):
         self.scope = self.variables(p)
@@ -531,11 +472,8 @@ class Gen:
         return self.commas([[*self.label(), *(["..", *self.label()] if self.chance(0.3) else [])] for _ in range(self.several(1, 2))])
 
     def label(self):
-        x = self.r.random()
-        if x < 0.3:
-            return [self.pick(["INT#5", "T#1s", "BOOL#1", "D#1-1"])]
         n = self.pick(["0", "1", "16#FF", "1.5", "7"])
-        return [self.pick("+-"), n] if x < 0.5 else [n]
+        return self.pick([[self.pick(["INT#5", "T#1s", "BOOL#1", "D#1-1"])], [self.pick("+-"), n], [n]])
 
     def subscripts(self):
         self.subs += 1
@@ -601,24 +539,17 @@ class Gen:
         if depth <= 0:
             if self.chance(0.5):
                 return self.reference(cls)[0]
-            if self.bad(0.1):
-                return [self.pick(ALL_LITERALS)]
-            near = {"B": ["B", "Any"], "I": ["I", "Num", "Any"], "W": ["W", "Num", "Any"], "O": ["O", "O", "I", "Num"]}.get(cls, [cls])
-            return [self.pick(LITERALS[self.pick(near)])]
+            return [self.literal("Free" if self.bad(0.1) else cls)]
         d = depth - 1
         x = self.r.random()
         if x < 0.15:
             return ["("] + self.expr(cls, d) + [")"]
         if x < 0.3:
-            op = "NOT" if cls in ("B", "W") else self.pick(["+", "-"])
-            if self.bad(0.1):
-                op = self.pick(["NOT", "+", "-"])
+            op = self.pick(["NOT", "+", "-"] if self.bad(0.1) else ["NOT"] if cls in ("B", "W") else ["+", "-"])
             return [op] + (self.expr(cls, 0) if self.chance(0.5) else ["("] + self.expr(cls, d) + [")"])
         logic, arith, compare = ["OR", "XOR", "AND", "&"], ["+", "-", "*", "/", "**", "MOD"], ["=", "<>", "<", ">", "<=", ">="]
         ops = (logic if self.chance(0.5) else compare) if cls == "B" else {"W": logic, "O": arith[:5]}.get(cls, arith)
-        op = self.pick(ops)
-        if self.bad(0.04):
-            op = self.pick(logic + arith + ["=", "<"])
+        op = self.pick(logic + arith + ["=", "<"] if self.bad(0.04) else ops)
         sub = self.pick(["B", "I", "W", "O"]) if op in compare else cls
         out = self.expr(sub, d) + [op] + self.expr(sub, d)
         if self.chance(0.25):
@@ -627,19 +558,12 @@ class Gen:
 
 
 def token_library(rng):
-    """Units with odd characters at one place each."""
-    out, atoms = {}, TABLES["atoms"]
+    """Units with odd characters at one place each, mostly with an end that fits what is before them."""
+    out, places = {}, TABLES["places"]
     for n in UNITS[:8]:
-        if rng.random() < 0.6:
-            i, suffixes = rng.randrange(len(TABLES["structure_prefixes"])), TABLES["structure_suffixes"]
-            odd = "".join(rng.choice(atoms + TABLES["structure_atoms"]) for _ in range(rng.randint(0, 5)))
-            start, end = TABLES["structure_prefixes"][i], suffixes[rng.choice(TABLES["structure_family"][i])]
-        else:
-            i, suffixes = rng.randrange(len(TABLES["prefixes"])), TABLES["suffixes"]
-            family = TABLES["family"][i]
-            start, end = TABLES["prefixes"][i], rng.choice([suffixes[j] for j in family]) if family and rng.random() < 0.75 else rng.choice(suffixes)
-            odd = "".join(rng.choice(atoms) for _ in range(rng.randint(1, 9)))
-        out[n] = start.replace("%s", n) + odd + end
+        start, *ends = rng.choice(places)
+        odd = "".join(rng.choice(TABLES["atoms"]) for _ in range(rng.randint(0, rng.choice([3, 9]))))
+        out[n] = start.replace("%s", n) + odd + rng.choice(ends if rng.random() < 0.85 else rng.choice(places)[1:])
     return out
 
 
@@ -655,8 +579,7 @@ def deep_library(rng):
 
 class Nets(Gen):
     """Units of all kinds that hold one another as instances and carry one another as values, and nothing else."""
-    HEADS = {"block": "FUNCTION_BLOCK", "subapp": "SUBAPPLICATION", "adapter": "ADAPTER", "system": "SYSTEM", "structure": "TYPE"}
-    KINDS = ["block"] * 4 + ["subapp"] * 3 + ["system", "adapter"] + ["structure"] * 4
+    KINDS = ["basic"] * 4 + ["subapp"] * 3 + ["system", "adapter"] + ["structure"] * 4
     PRESENT, GONE, ANEW = 0.8, 0.2, 0.3
 
     def library(self):
@@ -682,11 +605,11 @@ class Nets(Gen):
 
     def text(self, name):
         kind = self.plan[name]
-        head = self.HEADS[kind]
+        head = HEADS[kind]
         if kind == "structure":
             return "TYPE %s : STRUCT %sEND_STRUCT END_TYPE" % (name, self.values(0, 2))
         data = "VAR_INPUT %sEND_VAR " % self.values(0, 2)
-        body = {"block": self.held("FBS", "block", 0, 1) + self.held("PLUGS", "adapter", 0, 1) + data,
-                "subapp": self.held("FBS", "block", 0, 2) + self.held("SUBAPPS", "subapp", 0, 1) + data,
-                "system": "APPLICATION P %sEND_APPLICATION " % (self.held("FBS", "block", 0, 2) + self.held("SUBAPPS", "subapp", 0, 2)), "adapter": data}[kind]
+        body = {"basic": self.held("FBS", "basic", 0, 1) + self.held("PLUGS", "adapter", 0, 1) + data,
+                "subapp": self.held("FBS", "basic", 0, 2) + self.held("SUBAPPS", "subapp", 0, 1) + data,
+                "system": "APPLICATION P %sEND_APPLICATION " % (self.held("FBS", "basic", 0, 2) + self.held("SUBAPPS", "subapp", 0, 2)), "adapter": data}[kind]
         return "%s %s %sEND_%s" % (head, name, body, head)
