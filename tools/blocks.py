@@ -1,7 +1,6 @@
 """The parts of pages that tools make, between `<!-- made: NAME -->` and `<!-- end -->`. Between `<!-- measured: NAME -->` and `<!-- end -->` are figures
 that a program measured (benchmarks/tables --into PAGE): these are not made again here. All else in a page is written by hand."""
 import functools
-import glob
 import os
 import re
 import runpy
@@ -20,8 +19,8 @@ BLOCK = re.compile(r"^(<!-- (made|measured): (.+?) -->\n)(.*?)^(<!-- end -->)$",
 def tools():
     """Of each command of tools/ the sentence at its head, and why it is here."""
     rows = []
-    for path in sorted(it for it in glob.glob(f"{code_parts.TOP}/tools/*") if os.access(it, os.X_OK) and os.path.isfile(it)):
-        text = code_parts.text_of(os.path.relpath(path, code_parts.TOP))
+    for path in (it for it in code_parts.files("tools/*") if os.access(f"{code_parts.TOP}/{it}", os.X_OK)):
+        text = code_parts.text_of(path)
         head = re.match(r'#![^\n]*\n(?:"""|# )(.*?)(?:\n\n|\n(?=# |set -)|""")', text, re.S)
         why = re.search(r"^(?:# )?Why it is here: ([^\n]*?)\.(?:\"\"\")?$", text, re.M)
         if not why:

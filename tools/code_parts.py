@@ -68,7 +68,7 @@ def table(heads, rows, rule=" --- "):
 
 
 def files(pattern):
-    return sorted(os.path.relpath(it, TOP) for it in glob.glob(f"{TOP}/{pattern}", recursive=True))
+    return sorted(os.path.relpath(it, TOP) for it in glob.glob(f"{TOP}/{pattern}", recursive=True) if os.path.isfile(it))
 
 
 def line_of(path, name):
@@ -254,11 +254,10 @@ def home(module, name):
 def models():
     """What contracts see of the types that have a model: under each type the definitions of its value and those of its invariant."""
     found = {}
-    for crate in crates():
-        for file in files(f"crates/{crate}/src/**/*.rt"):
-            for name, block in re.findall(r"^impl(?:<[^>]*>)? Model for (\w+)[^\n]*\{\n(.*?)^\}", text_of(file), re.M | re.S):
-                uses = {name: module for line in block.split("\n") for module, name in imports_in(line)}
-                found[name] = [named(uses, re.findall(rf"ghost {word} = \{{(.*?)\}};", block, re.S)) for word in ("Value", "invariant")]
+    for file in files("crates/*/src/**/*.rt"):
+        for name, block in re.findall(r"^impl(?:<[^>]*>)? Model for (\w+)[^\n]*\{\n(.*?)^\}", text_of(file), re.M | re.S):
+            uses = {name: module for line in block.split("\n") for module, name in imports_in(line)}
+            found[name] = [named(uses, re.findall(rf"ghost {word} = \{{(.*?)\}};", block, re.S)) for word in ("Value", "invariant")]
     return found
 
 

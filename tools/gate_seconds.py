@@ -82,9 +82,7 @@ def refused():
     """Of each crate of tests, and of the conversations with the program, the sums of the newest file of refused allocations."""
     found = {}
     for row in rows_of(last("refused-*.tsv")):
-        sums = found.setdefault(row["by"].partition(":")[0], [0, 0, 0])
-        numbers = [[int(it) for it in row[name].split(", ")] for name in ("allocations", "reported or runs")]
-        for at, value in enumerate((len(numbers[0]), *map(sum, numbers))):
-            sums[at] += value
+        by, numbers = row["by"].partition(":")[0], [[int(it) for it in row[name].split(", ")] for name in ("allocations", "reported or runs")]
+        found[by] = [sum(it) for it in zip(found.get(by, (0, 0, 0)), (len(numbers[0]), *map(sum, numbers)))]
     cells = [[f"`{by}`", *(f"{it:,}" for it in sums)] for by, sums in found.items()]
     return table(["By", "Calls, or conversations", "Allocations refused in turn", "Lacks of memory reported, or runs"], cells)

@@ -19,7 +19,9 @@ import sys
 import tokenize
 from pathlib import Path
 
-TOP = os.path.dirname(os.path.dirname(os.path.abspath(__file__)))
+import code_parts
+from code_parts import TOP
+
 KNOWN = Path(TOP, "tools/plain_words.known")
 MADE = "docs/SHOWN.md"
 # The groups of sources by their places, each with how it marks a comment; None is Python.
@@ -59,23 +61,18 @@ def forms_of_file():
 FORMS, OF_PAGES = forms_of_file()
 
 
-def blanked(found):
-    """Blanks in its place, with its line ends: so lines keep their numbers."""
-    return re.sub(r"[^\n]", " ", found[0])
-
-
 def found_in(page, text, forms=FORMS):
-    text = CODE.sub(blanked, text)
-    for form, better in forms:
-        for found in form.finditer(text):
-            line = 1 + text.count("\n", 0, found.start())
-            yield line, f"{page}:{line}: '{found[0]}': better: {better}"
+    """What is found in a text, line by line."""
+    # (blanks and line ends are in the place of code, so lines keep their numbers)
+    text = CODE.sub(lambda code: re.sub(r"[^\n]", " ", code[0]), text)
+    found = sorted((1 + text.count("\n", 0, it.start()), f"'{it[0]}': better: {better}") for form, better in forms for it in form.finditer(text))
+    return [f"{page}:{line}: {words}" for line, words in found]
 
 
 def faults(page, text):
     """What check-docs prints of a page."""
     forms = [] if page == MADE else FORMS if page.endswith("/must-fail/README.md") else FORMS + OF_PAGES
-    return [words for _, words in sorted(found_in(page, text, forms))]
+    return found_in(page, text, forms)
 
 
 def comments(text, mark):
@@ -110,10 +107,9 @@ def groups():
     for place, files, mark, kind in SOURCES:
         for folder in sorted(glob.glob(f"{TOP}/{place}")):
             name = f"{os.path.relpath(folder, TOP)} {kind}"
-            for path in sorted(glob.glob(f"{folder}/{files}", recursive=True)):
-                if os.path.isfile(path) and "/out/" not in path and "/__pycache__/" not in path and is_of(path, kind):
-                    said = comments(Path(path).read_text(), mark)
-                    found.setdefault(name, []).extend(words for _, words in sorted(found_in(os.path.relpath(path, TOP), said)))
+            for path in code_parts.files(f"{os.path.relpath(folder, TOP)}/{files}"):
+                if not re.search("/(out|__pycache__)/", path) and is_of(f"{TOP}/{path}", kind):
+                    found.setdefault(name, []).extend(found_in(path, comments(code_parts.text_of(path), mark)))
     return found
 
 
@@ -152,7 +148,7 @@ def main(places):
             print(f"plain_words: there is no file and no group {place}", file=sys.stderr)
             return 2
         else:
-            found += [words for _, words in sorted(found_in(place, Path(place).read_text()))]
+            found += found_in(place, Path(place).read_text())
     print(*found, sep="\n", end="\n" if found else "")
     return 1 if found else 0
 

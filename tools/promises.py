@@ -3,6 +3,7 @@ the crates of docs/ARCHITECTURE.md.
 
 tools/shown.rows has which calls carry a promise, and which laws state it again; the wrong bodies are those whose line in a must-fail/README.md names it."""
 import functools
+import itertools
 import os
 import re
 import textwrap
@@ -81,11 +82,8 @@ def linked(it):
 
 def wrong_bodies(number):
     gate, beside = ([it for it in edits_of(number) if it.folder == folder] for folder in parts.FOLDERS)
-    named = {}
-    for it in gate:
-        named.setdefault(it.crate, []).append(f"`{it.name}`")
     counts = Counter(it.crate for it in beside)
-    in_gate = "; ".join(f"`{crate}`: {', '.join(names)}" for crate, names in named.items())
+    in_gate = "; ".join(f"`{crate}`: {shown.quoted(it.name for it in some)}" for crate, some in itertools.groupby(gate, lambda it: it.crate))
     standing = ", ".join(f"[{count} of `{crate}`](../crates/{crate}/must-fail/README.md)" for crate, count in counts.items())
     said = [f"{place} {names}" for place, names in (("in the gate", in_gate), ("outside the gate", standing)) if names]
     return "; ".join(said)

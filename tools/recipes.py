@@ -5,7 +5,6 @@ files, with {a,b}, * and **. Each file that has a word of the example is named b
 files, and each of its files has a word of the example or such a name. If the second cell has **all**, each file of the row has each variant of the enum that
 the line of the example names (`crate: Enum`)."""
 import functools
-import os
 import re
 
 import code_parts as parts
@@ -21,14 +20,10 @@ def expanded(pattern):
     return [pattern] if not found else [it for word in found[1].split(",") for it in expanded(pattern[: found.start()] + word + pattern[found.end() :])]
 
 
-def files_of(pattern):
-    return [it for it in parts.files(pattern) if os.path.isfile(f"{parts.TOP}/{it}")]
-
-
 @functools.cache
 def searched():
     """The files that are looked through, each with its text."""
-    paths = {it for pattern in SEARCHED for it in files_of(pattern) if not it.endswith((".png", ".svg"))}
+    paths = {it for pattern in SEARCHED for it in parts.files(pattern) if not it.endswith((".png", ".svg"))}
     return {it: parts.text_of(it) for it in sorted(paths)}
 
 
@@ -58,7 +53,7 @@ def faults():
     for title, example, variants, rows in recipes():
         named = set()
         for patterns, what in rows:
-            found = {it: files_of(it) for pattern in patterns for it in expanded(pattern)}
+            found = {it: parts.files(it) for pattern in patterns for it in expanded(pattern)}
             named |= {path for paths in found.values() for path in paths}
             yield from (f"{PAGE}: {title}: {it}" for it in faults_of_row(found, what, example, variants))
         for path, text in searched().items():
