@@ -11,6 +11,7 @@ from collections import Counter
 
 import code_parts as parts
 import crate_graph
+import definitions
 import headline
 import shown
 
@@ -43,8 +44,8 @@ def law(name):
 
 
 def cited(functions):
-    """The definitions that these contracts cite: a crate, a file and a name for each."""
-    return list(dict.fromkeys(place for it in functions for place in parts.cited(it)))
+    """The definitions that these contracts cite."""
+    return list(dict.fromkeys(its for it in functions for its in definitions.cited(it)))
 
 
 @functools.cache
@@ -57,9 +58,7 @@ def edits_of(number):
 def below(number):
     """All definitions on which a promise rests by the contracts of its calls and by its laws, but for those in other words."""
     said = [it for it in map(law, laws_of(number)) if it.crate != READERS]
-    places = cited([*(parts.function(*it) for it in calls_of(number)), *said])
-    found = (headline.in_file(f"crates/{crate}/specs/{file}.antt", name) for crate, file, name in places)
-    return headline.ordered([it for it in found if it])
+    return headline.ordered(cited([*(parts.function(*it) for it in calls_of(number)), *said]))
 
 
 @functools.cache
@@ -92,8 +91,8 @@ def wrong_bodies(number):
 def in_words(names, above):
     """Laws, with the definitions that they cite and that are not named above; of those for readers, which are called like their laws, the files."""
     places = [it for it in cited(map(law, names)) if it not in above]
-    files = dict.fromkeys(file for crate, file, _ in places if crate == READERS)
-    told = f"`{READERS}: {'`, `'.join(files)}`" if files else shown.definitions(places)
+    files = dict.fromkeys(it.file for it in places if it.crate == READERS)
+    told = f"`{READERS}: {'`, `'.join(files)}`" if files else shown.definitions(it.title for it in places)
     return shown.quoted(names) + (f" ({told})" if places else "")
 
 
@@ -104,7 +103,7 @@ def points_of(number):
     said, readers = ([it for it in laws_of(number) if (law(it).crate == READERS) is is_for_readers] for is_for_readers in (False, True))
     yield "Contracts", ", ".join(map(linked, calls))
     in_all = f"{len(all_below):,} definitions of {headline.lines_of(map(headline.displayed, all_below)):,} lines"
-    yield "Definitions", f"{shown.definitions(places) or 'none of the project'}; with all that these and the laws use, {in_all}"
+    yield "Definitions", f"{shown.definitions(it.title for it in places) or 'none of the project'}; with all that these and the laws use, {in_all}"
     yield "Laws", in_words(said, places)
     yield "In other words", in_words(readers, places)
     yield "Wrong bodies", wrong_bodies(number)

@@ -6,6 +6,7 @@ from collections import Counter
 from dataclasses import dataclass
 
 import code_parts as parts
+from definitions import cited, defining, models, promised, read
 
 ROWS = "tools/shown.rows"
 PAGE = "docs/SHOWN.md"
@@ -88,8 +89,7 @@ def has_plain(name):
 
 def has_definition(name):
     crate, file, item = place_of(name)
-    defines = re.compile(rf"^ *(?:unfoldable |abbrev )?pub (?:data |record )?{item}\s", re.M)
-    return any(defines.search(parts.text_of(it)) for it in parts.files(f"crates/{crate}/specs/**/{file}.antt"))
+    return any(item in read(it).items for it in parts.files(f"crates/{crate}/specs/**/{file}.antt"))
 
 
 def names_of(test):
@@ -146,11 +146,11 @@ def left_out():
 # ---- cells
 
 
-def definitions(places):
+def definitions(titles):
     """Definitions as documents name them: a crate once, and then its files and names."""
     by_crate = {}
-    for crate, file, name in places:
-        by_crate.setdefault(crate, dict.fromkeys([])).update({f"{file}.{name}": None})
+    for crate, name in (it.split(": ") for it in titles):
+        by_crate.setdefault(crate, {})[name] = None
     return ", ".join(f"`{crate}: {'`, `'.join(names)}`" for crate, names in by_crate.items())
 
 
@@ -161,12 +161,12 @@ def place_of(name):
 
 def defined_of_call(row, calls):
     """What the contracts of the calls cite, or else what their types are seen as, and what the types that they give keep."""
-    found = [place_of(it) for it in row.has("defined")] + [it for call in calls for it in parts.cited(call)]
-    for call in [it for it in calls if not found and (by := parts.promised(it)) and by.contract]:
-        found += parts.models().get(call.owner, ([], []))[0]
+    found = [it for call in calls for it in cited(call)]
+    for call in [it for it in calls if not found and not row.has("defined") and (by := promised(it)) and by.contract]:
+        found += models().get(call.owner, ([], []))[0]
         given = re.findall(r"\w+", call.signature.rpartition("->")[2])
-        found += [it for name in given if name not in ("Name", call.owner) for it in parts.models().get(name, ([], []))[1]]
-    return definitions(found) or NONE
+        found += [it for name in given if name not in ("Name", call.owner) for it in models().get(name, ([], []))[1]]
+    return definitions([*row.has("defined"), *(it.title for it in found)]) or NONE
 
 
 def edits_of(call):
@@ -301,7 +301,7 @@ def refused_row(row, gaps):
     has = re.compile(rf"\b{enum}::{variant}\b|\b(?:refused|delivered|answer)\\?\":\\?\"{variant}\\?\"")
     edits = edits_that(lambda it: has.search(it.text), row)
     tests = tests_that(lambda item: variant in item.words and has.search(item.text), row)
-    places = [place_of(it) for it in row.has("defined")] or parts.defining(enum, variant)
+    places = row.has("defined") or [it.title for it in defining(enum, variant)]
     note(gaps, row, edits, tests, places)
     return [
         f"`{variant}` of `{row.crate}: {enum}`",
@@ -350,7 +350,7 @@ def limit_row(row, gaps):
     return [
         row.names[0],
         quoted(row.has("of")),
-        definitions(place_of(it) for it in row.has("defined")) or NONE,
+        definitions(row.has("defined")) or NONE,
         again(row),
         quoted(it.name for it in edits) or NONE,
         ", ".join(f"`{it.crate}`: `{it.name}`" for it in tests) or NONE,
