@@ -29,7 +29,7 @@ def in_std(error: OSError) -> str:
 
 class WordsTest(unittest.TestCase):
     def test_each_option_has_a_sentence(self) -> None:
-        for command, count in (("script", 2), ("serve", 5), ("host", 8)):
+        for command, count in (("script", 2), ("serve", 5), ("host", 9)):
             status, out, errors = ran(command, "--help")
             self.assertEqual((status, out), (2, ""), errors)
             options = re.findall(r"^ +--(\w+) <\w+> +(\w[\w ,]+)", errors, re.MULTILINE)
