@@ -54,7 +54,7 @@ fn end_later<R: Wait + Clock>(rt: &R, shared: &Shared) {
 fn each_commit_wakes_a_watch(rt: HostRuntime) -> Result<(), Fail> {
     let alloc: Global = rt.alloc();
     let (shared, committer, watcher) = new_shared(alloc, 1000)?;
-    let (_woken, (has_seen, committed)) = join(
+    let told = join(
         &rt,
         || shared.tell_watchers(&rt),
         || {
@@ -65,7 +65,7 @@ fn each_commit_wakes_a_watch(rt: HostRuntime) -> Result<(), Fail> {
             )
         },
     );
-    assert_eq!(rt; (has_seen, committed), (true, Some(())));
+    assert_eq!(rt; told, ((), (true, Some(()))));
     assert!(rt; shared.is_closing());
     Ok(())
 }
@@ -73,7 +73,7 @@ fn each_commit_wakes_a_watch(rt: HostRuntime) -> Result<(), Fail> {
 #[test]
 fn the_end_of_watches_wakes_a_watch(rt: HostRuntime) -> Result<(), Fail> {
     let (shared, _other, mut watcher) = new_shared(rt.alloc(), 1000)?;
-    let (_woken, (seen, _ended)) = join(
+    let told = join(
         &rt,
         || shared.tell_watchers(&rt),
         || {
@@ -84,6 +84,6 @@ fn the_end_of_watches_wakes_a_watch(rt: HostRuntime) -> Result<(), Fail> {
             )
         },
     );
-    assert_eq!(rt; seen, Some(0));
+    assert_eq!(rt; told, ((), (Some(0), ())));
     Ok(())
 }
