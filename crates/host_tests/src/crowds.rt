@@ -139,18 +139,6 @@ leave 0 to 1
 2 leaves
 "#;
 
-const CLOSING: &str = r#"
-== The host closes while the ninth commit of a session waits / connections 2 / sessions 2 / workers 1 / units 1000 / history 100000 / calls any
-0 uses 6
-0 asks {"op":"commit","changes":[{"put":"ZZ","base":0,"text":"FUNCTION_BLOCK ZZ EVENT_INPUT E WITH X; END_EVENT END_FUNCTION_BLOCK"}]} => {"commit":7}
-0 adds 2 from 0
-wait 200
-1 asks {"op":"ask","kind":"net","unit":"A"} => {"refused":"NoSuchKey"}
-0 reads 2
-0 asks {"op":"ask","kind":"faults","unit":"ZZ"} => {"answer":"pending"}
-leave 0 to 1
-"#;
-
 #[test]
 fn who_commits_without_end_waits_for_the_workers(rt: HostRuntime) -> Result<(), Fail> {
     compare(&rt, rt.alloc(), FLOODS)
@@ -159,11 +147,6 @@ fn who_commits_without_end_waits_for_the_workers(rt: HostRuntime) -> Result<(), 
 #[test]
 fn a_key_that_is_let_go_is_the_workers_first(rt: HostRuntime) -> Result<(), Fail> {
     compare(&rt, rt.alloc(), GRABS)
-}
-
-#[test]
-fn a_commit_does_not_hold_up_the_close(rt: HostRuntime) -> Result<(), Fail> {
-    compare(&rt, rt.alloc(), CLOSING)
 }
 
 #[test]

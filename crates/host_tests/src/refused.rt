@@ -215,3 +215,52 @@ fn each_allocation_of_a_session_that_takes_keys(rt: HostRuntime) -> Result<(), F
 fn each_allocation_of_a_session_that_reads(rt: HostRuntime) -> Result<(), Fail> {
     try_session(&rt, rt.alloc(), READS)
 }
+
+// Nine commits of a session.
+const NINE: &str =
+    r#"{"op":"commit","changes":[{"put":"A","base":0,"text":"FUNCTION_BLOCK A (* 0 *) END_FUNCTION_BLOCK"}]}
+{"op":"commit","changes":[{"put":"A","base":1,"text":"FUNCTION_BLOCK A (* 1 *) END_FUNCTION_BLOCK"}]}
+{"op":"commit","changes":[{"put":"A","base":2,"text":"FUNCTION_BLOCK A (* 2 *) END_FUNCTION_BLOCK"}]}
+{"op":"commit","changes":[{"put":"A","base":3,"text":"FUNCTION_BLOCK A (* 3 *) END_FUNCTION_BLOCK"}]}
+{"op":"commit","changes":[{"put":"A","base":4,"text":"FUNCTION_BLOCK A (* 4 *) END_FUNCTION_BLOCK"}]}
+{"op":"commit","changes":[{"put":"A","base":5,"text":"FUNCTION_BLOCK A (* 5 *) END_FUNCTION_BLOCK"}]}
+{"op":"commit","changes":[{"put":"A","base":6,"text":"FUNCTION_BLOCK A (* 6 *) END_FUNCTION_BLOCK"}]}
+{"op":"commit","changes":[{"put":"A","base":7,"text":"FUNCTION_BLOCK A (* 7 *) END_FUNCTION_BLOCK"}]}
+{"op":"commit","changes":[{"put":"A","base":8,"text":"FUNCTION_BLOCK A (* 8 *) END_FUNCTION_BLOCK"}]}
+"#;
+
+const NINE_REPLIES: &str = r#"{"commit":1}
+{"commit":2}
+{"commit":3}
+{"commit":4}
+{"commit":5}
+{"commit":6}
+{"commit":7}
+{"commit":8}
+{"commit":9}
+"#;
+
+// What a session is answered whose ninth commit waits for a worker that never rests, while the host closes.
+fn answered_at_close<R: Wait + Clock>(rt: &R, alloc: Global) -> Result<Session, Fail> {
+    let limits = Limits::new(8, 100).ok_or("limits")?;
+    let (shared, mut seats) = Shared::rolling(
+        alloc,
+        limits,
+        u64::MAX,
+        1,
+        Identity { high: 7, low: 8 },
+    )?;
+    let store = ReceiptStore::new(alloc);
+    let pace = Pace::new(alloc, 1, 1, COMMIT_WAIT)?;
+    let state = CallerState::new(alloc, seats.pop().ok_or("no seat")?);
+    shared.end_watches(rt);
+    let (_state, session) = say_lines(rt, alloc, &shared, &store, &pace, state, NINE, 0)?;
+    Ok(session)
+}
+
+#[test]
+fn a_commit_does_not_hold_up_the_close(rt: HostRuntime) -> Result<(), Fail> {
+    let session = answered_at_close(&rt, rt.alloc())?;
+    assert!(rt; is_right(&session, NINE_REPLIES));
+    Ok(())
+}
