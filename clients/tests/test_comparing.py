@@ -666,7 +666,7 @@ class StartedAgainTest(TeamTest):
         self.running.open(self.file)
         self.running.await_codes(A=[])
         self.running.change(self.file, BAD)
-        self.await_text(BAD)
+        self.running.await_codes(A=["WITH_UNKNOWN"])
         with self.host.session() as session:
             number = session.commit([Put("A", session.revision("A"), GOOD)])
         self.running.await_told("A.fb", changed("A", number), (2, f"{FAULT} \\(as last known\\)"))
