@@ -15,7 +15,7 @@ from bench61499.lsp.navigation import Found
 from bench61499.lsp.rename import CantRename, renamed
 
 NEW = "Renamed_1"
-RENAMES = 250
+RENAMES = 1000
 
 
 class FaultsTest(unittest.TestCase):

@@ -35,7 +35,7 @@ class JudgeTest(unittest.TestCase):
     def test_names_are_judged_as_by_the_workbench(self) -> None:
         counts: Counter[str] = Counter()
         with Session.script(workbench()) as session:
-            for texts in libraries(21, 400):
+            for texts in libraries(21, 600):
                 faults = faults_of(session, texts)
                 broken = broken_units(faults)
                 for name in texts.keys() - broken:
