@@ -1,8 +1,7 @@
--- What each `Job` and each `Finished` keeps.
-use Rattle.std.specs.{Prelude.{◌≡◌, List, All}, declared.sync.Arc.{Arc}, declared.alloc.Global.{Global}}
-use Rattle.fb_jobs.specs.{Keys.{scratch}, Reads.{PlainJob, Seen, IsRight, read_texts}, Values.{finding_of, all_seen, IsOwn}, Cached.{IsCached}}
-use Rattle.fb_jobs.specs.{Work.{IsFoundFor}, declared.kept.hints.Hint.{Hint}, declared.kept.cached.Cached.{Cached}, declared.keys.key.Key.{Key}, declared.keys.read.Read.{Read}}
-use Rattle.fb_jobs.specs.declared.values.value.Value.{Value}
+-- What each `Inputs` and each `Finished` keeps.
+use Rattle.std.specs.Prelude.{◌≡◌, List, All}
+use Rattle.fb_jobs.specs.{Keys.{scratch}, Reads.{PlainJob, Seen, IsRight, read_texts}, Values.{finding_of, all_seen, IsOwn}}
+use Rattle.fb_jobs.specs.{Work.{IsFoundFor}, declared.jobs.computed.Worked.{Worked}, declared.keys.key.Key.{Key}, declared.keys.read.Read.{Read}, declared.values.value.Value.{Value}}
 
 abbrev pub plain_job : Key → List Read → PlainJob
 plain_job key reads = record { key = key; reads = all_seen reads }
@@ -13,13 +12,11 @@ pub record IsJob (key : Key) (reads : List Read) (texts : List Seen) : Type 0 wh
   pub own : All IsOwn reads
   pub texts_are : texts ≡ all_seen reads
 
--- a job, and what it knows beside its reads is what they give
-pub record IsGiven (key : Key) (reads : List Read) (texts : List Seen) (cached : Cached) : Type 0 where
-  pub job : IsJob key reads texts
-  pub known : IsCached (all_seen reads) key cached
+-- what the reads give the key, from scratch
+abbrev pub IsValueOf : PlainJob → Value → Type 0
+IsValueOf it value = finding_of value ≡ scratch (read_texts it.reads) it.key
 
 -- the value is that of the reads, from scratch, and so are the nets that were found on the way
-pub record IsFinished (key : Key) (reads : List Read) (texts : List Seen) (value : Arc Value Global) (found : List Hint) : Type 0 where
-  pub job : IsJob key reads texts
-  pub value_is : finding_of value.value ≡ scratch (read_texts (all_seen reads)) key
-  pub found_are : All (IsFoundFor (read_texts (all_seen reads)) key) found
+pub record IsFinished (it : PlainJob) (work : Worked) : Type 0 where
+  pub value_is : IsValueOf it work.value.value
+  pub found_are : All (IsFoundFor (read_texts it.reads) it.key) work.found.items

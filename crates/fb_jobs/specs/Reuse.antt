@@ -3,17 +3,12 @@ use Rattle.std.specs.{Prelude.{◌≡◌, ◌⊎◌, ⊤, ℕ, Bool, true, false
 use Rattle.fb_deploy.specs.{Deploy.{plain_deploy}, Plans.{is_whole_plan}, Flatten.Hints.{is_whole_net}, Flatten.Net.{plain_net}, Library.Texts.{Held, text_in}}
 use Rattle.fb_deploy.specs.{Library.View.{mentions_of_tree, tree_of}, Flatten.Wiring.Local.{AreInterchangeableBlocks}}
 use Rattle.fb_jobs.specs.{declared.keys.key.Key.{Key}, declared.values.value.Value.{Value}, declared.values.value.Value.TheVariants.{Faults, Net, Deploy}, Keys.{scratch}}
-use Rattle.fb_jobs.specs.{declared.keys.read.Read.{Read}, Reads.{IsRight, Seen, read_texts}, Values.{all_seen, finding_of}}
+use Rattle.fb_jobs.specs.{Reads.{IsRight, Seen, read_texts}, Values.{finding_of}}
 
 -- the value is that of what was read, from scratch
 pub record IsDerived (key : Key) (reads : List Seen) (value : Value) : Type 0 where
   pub right : IsRight (record { key = key; reads = reads })
   pub value_is : finding_of value ≡ scratch (read_texts reads) key
-
--- the value of these reads, and these are their texts
-pub record IsDerivation (key : Key) (reads : List Read) (texts : List Seen) (value : Value) : Type 0 where
-  pub derived : IsDerived key (all_seen reads) value
-  pub texts_are : texts ≡ all_seen reads
 
 -- whether it is a net that nothing blocked and in which no type reaches itself, or a plan by such a net
 abbrev pub is_whole_value : Value → Bool

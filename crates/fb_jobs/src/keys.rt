@@ -1,4 +1,5 @@
 //! The keys of entries, and what is read for each.
+pub(crate) mod inputs;
 pub(crate) mod key;
 pub(crate) mod kinds;
 pub(crate) mod read;

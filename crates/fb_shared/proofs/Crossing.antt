@@ -23,6 +23,7 @@ use Rattle.fb_types.specs.contracts.nets.Net as Net
 use Rattle.fb_locked.specs.Deploy.contracts.planning.Deploy as Deploy
 use Rattle.fb_locked.specs.Jobs.contracts.values.value.Value as Value
 use Rattle.fb_locked.specs.Jobs.contracts.keys.read.Read as Read
+use Rattle.fb_locked.specs.Jobs.contracts.keys.inputs.Inputs as Inputs
 use Rattle.fb_locked.specs.Jobs.contracts.values.derivation.Derivation as Derivation
 use Rattle.fb_locked.specs.History.contracts.record.Reply as Reply
 use Rattle.fb_locked.specs.History.contracts.record.Record as Record
@@ -155,8 +156,14 @@ read_field_send = search (source_field_send, source_field_sync, below) depth 60 
 read_field_sync : IsSync (Read.the_field).row
 read_field_sync = search (source_field_send, source_field_sync, below) depth 60 fits 20000
 
+inputs_field_send : IsSend (Inputs.the_field).row
+inputs_field_send = search (read_field_send, below) depth 60 fits 20000
+
+inputs_field_sync : IsSync (Inputs.the_field).row
+inputs_field_sync = search (read_field_sync, below) depth 60 fits 20000
+
 derivation_field_send : IsSend (Derivation.the_field).row
-derivation_field_send = search (value_field_send, value_field_sync, read_field_send, read_field_sync, below) depth 60 fits 20000
+derivation_field_send = search (value_field_send, value_field_sync, inputs_field_send, inputs_field_sync, below) depth 60 fits 20000
 
 reply_field_send : IsSend (Reply.the_field).row
 reply_field_send = search (value_field_send, value_field_sync, below) depth 60 fits 20000

@@ -1,12 +1,10 @@
 //! Jobs.
 //! A job gets no earlier value of a key as a hint: `run` gives the previous value of its own key only if all that the key reads leaves it
 //! unchanged, or if the new value equals it.
-ghost use Rattle.std.specs.{Prelude.{◌≡◌, true, IfOk, IfErr, IfSome, All}, Option.{option_map}, List.Sorted.{IsStrictlySortedBy}};
-ghost use Rattle.std.specs.FinMap as map;
-ghost use Rattle.fb_text.specs.Order.{name_cmp};
-ghost use Rattle.fb_deploy.specs.{Library.Texts.{text_at, sources_of}, Library.Place.{IsAt, IsGapFor}};
+ghost use Rattle.std.specs.Prelude.{◌≡◌, true, IfOk, IfSome, All};
+ghost use Rattle.fb_deploy.specs.Library.Texts.{sources_of};
 ghost use Rattle.fb_jobs.specs.{Finished.{plain_job}, Hints.{AreHints}, Cache.{AreKept}, Keys.{has_key, scratch}, Cached.{IsCached}};
-ghost use Rattle.fb_jobs.specs.{Reads.{IsRight, read_names, read_texts, reads_for}, Values.{all_seen, finding_of, IsOwn}, Work.{IsWork}};
+ghost use Rattle.fb_jobs.specs.{Reads.{IsRight, read_texts, reads_for}, Values.{all_seen, finding_of, IsOwn}, Work.{IsWork}};
 
 use crate::jobs::computed::{Worked, work_of};
 use crate::jobs::result::Finished;
@@ -14,25 +12,21 @@ use crate::kept::cache::Cache;
 use crate::kept::cached::{Cached, CachedNets, flagged_names, nets_of, unless};
 use crate::kept::hints::Hint;
 use crate::kept::reuse::{are_still_read, is_whole_value};
+use crate::keys::inputs::Inputs;
 use crate::keys::key::Key;
 use crate::keys::read::Read;
 use crate::keys::reads::{reads_anew, reads_of};
 use crate::keys::texts::TextReads;
 use crate::values::derivation::Derivation;
 use crate::values::value::Value;
-use fb_deploy::library::{Library, View};
-use fb_deploy::parse::Source;
-use fb_text::Name;
+use fb_deploy::library::Library;
 use std::alloc::{AllocError, Global};
 use std::marker::Model;
 use std::sync::Arc;
 
-/// A key with all that its value depends on. The reads are one list, which the result shares; their texts are another, which
-/// the history keeps.
+/// A key with all that its value depends on, which the result shares.
 pub struct Job {
-    key: Key,
-    reads: Arc<Vec<Read>>,
-    texts: Arc<TextReads>,
+    inputs: Arc<Inputs>,
     cached: Cached,
     // a value that the key had once, with the reads that gave it, to be shared by a result that equals it
     previous: Option<Derivation>,
@@ -41,9 +35,7 @@ pub struct Job {
 impl Drop for Job {
     fn drop(self) {
         let Self {
-            key: _,
-            reads: _,
-            texts: _,
+            inputs: _,
             cached: _,
             previous: _,
         } = self;
@@ -55,11 +47,11 @@ impl Model for Job {
 
     ghost Value = { PlainJob };
 
-    ghost use Rattle.fb_jobs.specs.Finished.{plain_job, IsGiven};
+    ghost use Rattle.fb_jobs.specs.Cached.{IsCached};
 
-    ghost view = { λ it. plain_job it.key it.reads.value.items };
+    ghost view = { λ it. it.inputs.value };
 
-    ghost invariant = { λ it. IsGiven it.key it.reads.value.items it.texts.value it.cached };
+    ghost invariant = { λ it. IsCached it.inputs.value.reads it.inputs.value.key it.cached };
 }
 
 impl Job {
@@ -124,20 +116,24 @@ impl Job {
         ensures { IfOk result (λ job. job ≡ plain_job key reads.items) }
     {
         let texts = Arc::new(alloc, texts)?;
-        let reads = Arc::new(alloc, reads)?;
+        let inputs = Arc::new(alloc, Inputs::new(key, reads, texts))?;
         Ok(Job {
-            key,
-            reads,
-            texts,
+            inputs,
             cached,
             previous,
         })
     }
 
+    fn inputs(&self) -> &Inputs
+        ensures { result.now ≡ self.now }
+    {
+        &self.inputs
+    }
+
     pub fn key(&self) -> Key
         ensures { result ≡ self.now.key }
     {
-        self.key
+        self.inputs().key()
     }
 
     pub fn reads(&self) -> &[Read]
@@ -145,14 +141,14 @@ impl Job {
         ensures right { IsRight self.now }
         ensures own { All IsOwn result.now }
     {
-        &self.reads
+        self.inputs().reads()
     }
 
     /// The texts of the reads, to be kept.
     pub fn texts(&self) -> &Arc<TextReads>
         ensures { result.now.value ≡ self.now.reads }
     {
-        &self.texts
+        self.inputs().texts()
     }
 
     /// The nets of other subapplications that are passed.
@@ -172,12 +168,13 @@ impl Job {
             return Ok(None);
         };
         let value = derivation.value();
-        if derivation.key() != self.key || !is_whole_value(value) {
+        let key = self.key();
+        if derivation.key() != key || !is_whole_value(value) {
             return Ok(None);
         }
         let before = derivation.reads();
         let faultless = &self.cached.faultless;
-        if are_still_read(alloc, &self.key.unit, faultless, before, &self.reads)? {
+        if are_still_read(alloc, &key.unit, faultless, before, self.reads())? {
             return Ok(Some(value));
         }
         Ok(None)
@@ -192,12 +189,19 @@ impl Job {
         let hints = unless(own.is_some(), &self.cached.hints);
         let flags = unless(own.is_some(), &self.cached.faultless);
         let nets = nets_of(alloc, hints)?;
-        let faultless = flagged_names(alloc, &self.reads, flags)?;
+        let faultless = flagged_names(alloc, self.reads(), flags)?;
         let known = CachedNets {
             nets: &nets,
             faultless: &faultless,
         };
-        work_of(alloc, self, self.key, &known, own, &self.previous)
+        work_of(
+            alloc,
+            self.inputs(),
+            self.key(),
+            &known,
+            own,
+            &self.previous,
+        )
     }
 
     fn worked(&self, alloc: Global) -> Result<Worked, AllocError>
@@ -218,44 +222,7 @@ impl Job {
         ensures { IfOk result (λ finished. finished ≡ self.now) }
     {
         let work = self.worked(alloc)?;
-        let reads = self.reads.clone()?;
-        let texts = self.texts.clone()?;
-        Ok(Finished::of_reads(self.key, reads, texts, work))
-    }
-
-    /// The place of a name among the reads, or the one at which it would be inserted.
-    fn place(&self, name: &Name) -> Result<usize, usize>
-        ensures found { IfOk result (IsAt (read_names self.now.reads) name.now) }
-        ensures absent { IfErr result (IsGapFor (read_names self.now.reads) name.now) }
-    {
-        self.reads
-            .binary_search_by(|read| read.name.as_str().cmp(name.as_str()))
-    }
-
-    /// The source that was read under a name.
-    fn find(&self, name: &Name) -> Option<&Source>
-        ensures text { option_map (λ it. it.now.text) result
-            ≡ text_at (read_texts self.now.reads) name.now }
-        ensures own { IfSome result (λ it. it.now.unit ≡ name.now) }
-    {
-        match self.place(name) {
-            Ok(at) => match &self.reads[at].source {
-                Some(source) => Some(source),
-                None => None,
-            },
-            Err(_) => None,
-        }
-    }
-}
-
-impl View for Job {
-    ghost use Rattle.fb_deploy.specs.Library.Texts.{sources_of};
-    ghost use Rattle.fb_jobs.specs.Reads.{read_texts};
-
-    ghost sources = { λ job. sources_of (read_texts job.reads) };
-
-    #[tactic(auto, using(crate::proofs::Sources::get_source))]
-    fn get(&self, name: &Name) -> Option<&Source> {
-        self.find(name)
+        let inputs = self.inputs.clone()?;
+        Ok(Finished::new(inputs, work))
     }
 }

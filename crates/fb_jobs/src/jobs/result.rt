@@ -1,10 +1,11 @@
 //! Results of jobs.
 ghost use Rattle.std.specs.Prelude.{◌≡◌, All, IfOk};
-ghost use Rattle.fb_jobs.specs.{Finished.{IsFinished, plain_job}, Keys.{scratch}, Reads.{IsRight, read_texts}, Values.{all_seen, finding_of, IsOwn}};
+ghost use Rattle.fb_jobs.specs.{Finished.{IsFinished}, Keys.{scratch}, Reads.{IsRight, read_texts}, Values.{all_seen, finding_of, IsOwn}};
 ghost use Rattle.fb_jobs.specs.Work.{IsFoundFor};
 
 use crate::jobs::computed::Worked;
 use crate::kept::hints::Hint;
+use crate::keys::inputs::Inputs;
 use crate::keys::key::Key;
 use crate::keys::read::Read;
 use crate::keys::texts::TextReads;
@@ -16,20 +17,13 @@ use std::sync::Arc;
 
 /// The result of a job: its value is that of its own reads.
 pub struct Finished {
-    key: Key,
-    reads: Arc<Vec<Read>>,
-    texts: Arc<TextReads>,
+    inputs: Arc<Inputs>,
     work: Worked,
 }
 
 impl Drop for Finished {
     fn drop(self) {
-        let Self {
-            key: _,
-            reads: _,
-            texts: _,
-            work: _,
-        } = self;
+        let Self { inputs: _, work: _ } = self;
     }
 }
 
@@ -38,35 +32,25 @@ impl Model for Finished {
 
     ghost Value = { PlainJob };
 
-    ghost use Rattle.fb_jobs.specs.Finished.{plain_job, IsFinished};
+    ghost use Rattle.fb_jobs.specs.Finished.{IsFinished};
 
-    ghost view = { λ it. plain_job it.key it.reads.value.items };
+    ghost view = { λ it. it.inputs.value };
 
-    ghost invariant = { λ it. IsFinished it.key it.reads.value.items it.texts.value it.work.value it.work.found.items };
+    ghost invariant = { λ it. IsFinished it.inputs.value it.work };
 }
 
 impl Finished {
-    pub(crate) fn of_reads(
-        key: Key,
-        reads: Arc<Vec<Read>>,
-        texts: Arc<TextReads>,
-        work: Worked,
-    ) -> Finished
-        requires { IsFinished key reads.value.items texts.value work.value work.found.items }
-        ensures { result ≡ plain_job key reads.value.items }
+    pub(crate) fn new(inputs: Arc<Inputs>, work: Worked) -> Finished
+        requires { IsFinished inputs.value work }
+        ensures { result ≡ inputs.value }
     {
-        Finished {
-            key,
-            reads,
-            texts,
-            work,
-        }
+        Finished { inputs, work }
     }
 
     pub fn key(&self) -> Key
         ensures { result ≡ self.now.key }
     {
-        self.key
+        self.inputs.key()
     }
 
     pub fn reads(&self) -> &[Read]
@@ -74,14 +58,14 @@ impl Finished {
         ensures right { IsRight self.now }
         ensures own { All IsOwn result.now }
     {
-        &self.reads
+        self.inputs.reads()
     }
 
     /// The texts of the reads, to be kept.
     pub fn texts(&self) -> &Arc<TextReads>
         ensures { result.now.value ≡ self.now.reads }
     {
-        &self.texts
+        self.inputs.texts()
     }
 
     /// The value that its reads give from scratch.
@@ -91,15 +75,13 @@ impl Finished {
         &self.work.value
     }
 
-    /// The value with the reads that give it, under a share of the key.
-    pub fn derivation(&self, key: Arc<Key>) -> Result<Derivation, AllocError>
-        requires { key.value ≡ self.now.key }
+    /// The value with the reads that give it.
+    pub fn derivation(&self) -> Result<Derivation, AllocError>
         ensures { IfOk result (λ made. made ≡ self.now) }
     {
-        let reads = self.reads.clone()?;
-        let texts = self.texts.clone()?;
+        let inputs = self.inputs.clone()?;
         let value = self.work.value.clone()?;
-        Ok(Derivation::new(key, reads, texts, value))
+        Ok(Derivation::new(inputs, value))
     }
 
     /// The nets of other units that were computed on the way, from scratch by the same reads.

@@ -1,7 +1,8 @@
 //! Values with the reads that gave them.
 ghost use Rattle.std.specs.Prelude.{◌≡◌, IfOk};
-ghost use Rattle.fb_jobs.specs.{Finished.{plain_job}, Keys.{scratch}, Reuse.{IsDerivation}, Reads.{IsRight, read_texts}, Values.{all_seen, finding_of}};
+ghost use Rattle.fb_jobs.specs.{Finished.{IsValueOf}, Keys.{scratch}, Reads.{IsRight, read_texts}, Values.{all_seen, finding_of}};
 
+use crate::keys::inputs::Inputs;
 use crate::keys::key::Key;
 use crate::keys::read::Read;
 use crate::keys::texts::TextReads;
@@ -12,18 +13,14 @@ use std::sync::Arc;
 
 /// A value of a key, with the reads that give it, and their texts. All are shared with all others that keep them.
 pub struct Derivation {
-    key: Arc<Key>,
-    reads: Arc<Vec<Read>>,
-    texts: Arc<TextReads>,
+    inputs: Arc<Inputs>,
     value: Arc<Value>,
 }
 
 impl Drop for Derivation {
     fn drop(self) {
         let Self {
-            key: _,
-            reads: _,
-            texts: _,
+            inputs: _,
             value: _,
         } = self;
     }
@@ -34,64 +31,47 @@ impl Model for Derivation {
 
     ghost Value = { PlainJob };
 
-    ghost use Rattle.fb_jobs.specs.{Finished.{plain_job}, Reuse.{IsDerivation}};
+    ghost use Rattle.fb_jobs.specs.Finished.{IsValueOf};
 
-    ghost view = { λ it. plain_job it.key.value it.reads.value.items };
+    ghost view = { λ it. it.inputs.value };
 
-    ghost invariant = { λ it. IsDerivation it.key.value it.reads.value.items it.texts.value it.value.value };
+    ghost invariant = { λ it. IsValueOf it.inputs.value it.value.value };
 }
 
 impl Derivation {
-    pub(crate) fn new(
-        key: Arc<Key>,
-        reads: Arc<Vec<Read>>,
-        texts: Arc<TextReads>,
-        value: Arc<Value>,
-    ) -> Derivation
-        requires { IsDerivation key.value reads.value.items texts.value value.value }
-        ensures { result ≡ plain_job key.value reads.value.items }
+    pub(crate) fn new(inputs: Arc<Inputs>, value: Arc<Value>) -> Derivation
+        requires { IsValueOf inputs.value value.value }
+        ensures { result ≡ inputs.value }
     {
-        Derivation {
-            key,
-            reads,
-            texts,
-            value,
-        }
+        Derivation { inputs, value }
     }
 
     /// The same value of the same reads.
     pub fn share(&self) -> Result<Derivation, AllocError>
         ensures { IfOk result (λ made. made ≡ self.now) }
     {
-        let key = self.key.clone()?;
-        let reads = self.reads.clone()?;
-        let texts = self.texts.clone()?;
+        let inputs = self.inputs.clone()?;
         let value = self.value.clone()?;
-        Ok(Derivation {
-            key,
-            reads,
-            texts,
-            value,
-        })
+        Ok(Derivation { inputs, value })
     }
 
     pub(crate) fn key(&self) -> Key
         ensures { result ≡ self.now.key }
     {
-        *self.key
+        self.inputs.key()
     }
 
     pub(crate) fn reads(&self) -> &[Read]
         ensures same { all_seen result.now ≡ self.now.reads }
         ensures right { IsRight self.now }
     {
-        &self.reads
+        self.inputs.reads()
     }
 
     pub(crate) fn texts(&self) -> &TextReads
         ensures { result.now ≡ self.now.reads }
     {
-        &self.texts
+        self.inputs.texts()
     }
 
     /// The value that the reads give from scratch.
