@@ -15,7 +15,7 @@ use crate::kept::reuse::{are_still_read, is_whole_value};
 use crate::keys::inputs::Inputs;
 use crate::keys::key::Key;
 use crate::keys::read::Read;
-use crate::keys::reads::{reads_anew, reads_of};
+use crate::keys::reads::reads_of;
 use crate::keys::texts::TextReads;
 use crate::values::derivation::Derivation;
 use crate::values::value::Value;
@@ -70,7 +70,7 @@ impl Job {
     {
         // For the proof: the key is named before the call gets it.
         let wanted = key;
-        let (reads, texts) = reads_anew(alloc, library, wanted)?;
+        let (reads, texts) = reads_of(alloc, library, wanted, &None)?;
         let cached = Cached::of_hints(alloc, hints);
         Job::of_reads(alloc, key, reads, texts, cached, None)
     }

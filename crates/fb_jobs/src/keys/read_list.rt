@@ -42,8 +42,8 @@ impl Model for ReadList {
 }
 
 impl ReadList {
-    ghost use Rattle.std.specs.{Prelude.{◌≡◌, ◌++◌, ◌↔◌, ◌∷◌, [], IfOk, IsTrue, length, slice_get}, Option.{option_map}};
-    ghost use Rattle.fb_jobs.specs.{Texts.{seen_under, text_of}, Values.{text_seen}};
+    ghost use Rattle.std.specs.{Prelude.{◌≡◌, ◌++◌, ◌↔◌, ◌∷◌, [], IfOk, IfSome, IsTrue, Some, length, slice_get}, Option.{option_map}};
+    ghost use Rattle.fb_jobs.specs.{Library.Filed.{filed_text}, Texts.{seen_under, text_of, there}, Values.{text_seen}};
 
     /// None yet, with room for this number.
     pub(crate) fn with_capacity(alloc: Global, count: usize) -> Result<ReadList, AllocError>
@@ -74,9 +74,15 @@ impl ReadList {
         Ok(ReadList { versions, absent })
     }
 
-    /// Whether there is a name without a text.
-    pub(crate) fn has_absent(&self) -> bool {
-        !self.absent.is_empty()
+    /// The text that was read at a place, to be shared. None if the name is absent.
+    pub(crate) fn version(&self, place: usize) -> Option<&Arc<Version>>
+        ensures { IfSome result
+            (λ version. slice_get self.now place ≡ Some (there (filed_text version.now.value))) }
+    {
+        match self.versions.get(place) {
+            Some(Some(version)) => Some(version),
+            _ => None,
+        }
     }
 
     /// How many names were read.

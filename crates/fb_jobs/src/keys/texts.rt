@@ -1,7 +1,8 @@
 //! What a history keeps of reads.
-//! A job for a key that had a value reads the same names, and nearly always the same texts: it shares the list of that value, and keeps only what differs.
-ghost use Rattle.std.specs.{Prelude.{◌≡◌, ◌↔◌, ◌++◌, IfOk, IsTrue, Some, List, slice_get, option_copied}, Option.{option_map}};
-ghost use Rattle.fb_jobs.specs.{Reads.{Seen}, Replaced.{all_replaced, latest_or}, Values.{text_seen, version_held}};
+//! A job for a key that had a value reads nearly always the same texts: it shares the list of that value, and keeps only what differs.
+ghost use Rattle.std.specs.{Prelude.{◌≡◌, ◌↔◌, ◌++◌, IfOk, OnOk, IsTrue, Some, List, slice_get, option_copied}, Option.{option_map}};
+ghost use Rattle.fb_deploy.specs.Library.Filed.{filed_text};
+ghost use Rattle.fb_jobs.specs.{Reads.{Seen}, Replaced.{all_replaced, latest_or, more_replaced, unless_replaced}, Texts.{there}, Values.{text_seen, version_held}};
 
 use crate::keys::read_list::ReadList;
 use crate::values::same::is_one_name;
@@ -11,7 +12,7 @@ use std::alloc::{AllocError, Global};
 use std::marker::Model;
 use std::sync::Arc;
 
-/// With this number of replacements a new list is made.
+/// With this number of replacements a new list is kept.
 const MOST_REPLACEMENTS: usize = 8;
 
 /// What was read under a name: a text with its revision, or nothing.
@@ -56,7 +57,7 @@ impl Model for TextReads {
 }
 
 impl TextReads {
-    ghost use Rattle.std.specs.Prelude.{◌↔◌, IfOk, IsTrue, length, slice_get};
+    ghost use Rattle.std.specs.Prelude.{◌↔◌, IfOk, IfSome, IsTrue, length, slice_get};
 
     /// These texts.
     pub(crate) fn of_list(alloc: Global, list: ReadList) -> Result<TextReads, AllocError>
@@ -91,15 +92,44 @@ impl TextReads {
         }
     }
 
-    /// Whether the list serves for texts that differ from these in this number of places. One with absent names does not, as these are counted at each look.
-    pub(crate) fn serves(&self, count: usize) -> bool {
-        count < MOST_REPLACEMENTS
-            && self.replacements.len() < MOST_REPLACEMENTS
-            && !self.list.has_absent()
+    /// The texts of a list: these, but for those that are replaced, if few are and none is absent, as absent names are counted at each look.
+    pub(crate) fn renewed(&self, alloc: Global, list: ReadList) -> Result<TextReads, AllocError>
+        ensures { IfOk result (λ texts. texts ≡ list) }
+    {
+        match self.replacements_for(alloc, &list)? {
+            Some(replacements) => self.replaced(alloc, replacements),
+            None => TextReads::of_list(alloc, list),
+        }
+    }
+
+    /// The texts of a list that replace some of these. None if they are not as many, if one is absent, or if too many are replaced.
+    fn replacements_for(
+        &self,
+        alloc: Global,
+        list: &ReadList,
+    ) -> Result<Option<Vec<Replacement>>, AllocError>
+        ensures { IfOk result
+            (λ found. IfSome found (λ later. all_replaced self.now later.items ≡ list.now)) }
+    {
+        if self.len() != list.len() || self.replacements.len() >= MOST_REPLACEMENTS {
+            return Ok(None);
+        }
+        let mut later = Vec::new(alloc);
+        for place in 0..list.len() {
+            let Some(version) = list.version(place) else {
+                return Ok(None);
+            };
+            let instead = text_instead(&self.get(place), version)?;
+            add_replacement(&mut later, place, instead)?;
+            if later.len() >= MOST_REPLACEMENTS {
+                return Ok(None);
+            }
+        }
+        Ok(Some(later))
     }
 
     /// These texts but for some, which are replaced.
-    pub(crate) fn replaced(
+    fn replaced(
         &self,
         alloc: Global,
         mut later: Vec<Replacement>,
@@ -197,4 +227,36 @@ fn is_same_read(a: &Option<TextRead<'_>>, b: &Option<TextRead<'_>>) -> bool
         }
         _ => false,
     }
+}
+
+/// The text, if it is another than the one that was read.
+fn text_instead(
+    before: &Option<TextRead<'_>>,
+    now: &Arc<Version>,
+) -> Result<Option<Arc<Version>>, AllocError>
+    ensures { IfOk result (λ instead. (was : Seen) → option_map text_seen before.now ≡ Some was
+        → unless_replaced was instead ≡ there (filed_text now.now.value)) }
+{
+    let read = TextRead {
+        name: now.unit,
+        version: Some(now),
+    };
+    if is_same_read(before, &Some(read)) {
+        return Ok(None);
+    }
+    Ok(Some(now.clone()?))
+}
+
+/// Adds the text that replaces the one at a place, if there is one.
+fn add_replacement(
+    replacements: &mut Vec<Replacement>,
+    place: usize,
+    text: Option<Arc<Version>>,
+) -> Result<(), AllocError>
+    ensures { OnOk result (replacements.new.items ≡ more_replaced replacements.old.items place text) }
+{
+    if let Some(version) = text {
+        replacements.push(Replacement { place, version })?;
+    }
+    Ok(())
 }

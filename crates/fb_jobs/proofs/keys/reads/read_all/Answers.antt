@@ -1,13 +1,14 @@
+-- One more read, and its text.
 use Rattle.std.proofs.{Common.{◌≡◌, ◌+◌, ◌++◌, [], ◌∷◌, take, arith, ap, sym, subst, ◌∙◌, All}, lemmas.Grind.{common_steps}, lemmas.List.{map-append}}
 use Rattle.std.proofs.lemmas.List.Elements.{All-push}
 use Rattle.fb_deploy.specs.Library.Texts.{held}
 use Rattle.fb_jobs.specs.{Reads.{reads_under}, Values.{seen_of, all_seen, IsOwn}}
-use Rattle.fb_jobs.proofs.keys.reads.reads_anew.Goals as goal
+use Rattle.fb_jobs.proofs.keys.reads.read_all.Goals as goal
 
 pub loop-name-preserved : goal.loop-name-preserved
 loop-name-preserved c =
     let library = c.args.library.now in
-    let names = c.deref-name-items.result.now in
+    let names = c.args.names.now in
     let i = c.loop-name.name-index in
     let name = c.name-item.result in
     let read = c.in_ok-read.read in

@@ -1,6 +1,0 @@
-use Rattle.std.proofs.Common.{◌≡◌, take}
-use Rattle.fb_jobs.specs.{Reads.{read_names, reads_under}, Values.{all_seen}}
-use Rattle.fb_jobs.proofs.keys.reads.texts_of.Given as goal
-
-abbrev pub invariant-loop-read : goal.invariant-loop-read
-invariant-loop-read l = l.texts ≡ reads_under l.library (read_names (all_seen (take l.read-index l.reads)))
