@@ -529,7 +529,7 @@ impl Bench {
         current_nets();
         let shared = self.shared_key(finished.key())?;
         let value = finished.value().clone()?;
-        let derivation = finished.derivation()?;
+        let derivation = finished.derivation(shared.clone()?)?;
         let call = call_of_result(shared, finished)?;
         let found = shares_of(self.alloc, finished.found())?;
         let answer = Reply::Accepted;

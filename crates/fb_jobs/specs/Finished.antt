@@ -1,5 +1,5 @@
--- What each `Inputs` and each `Finished` keeps.
-use Rattle.std.specs.Prelude.{◌≡◌, List, All}
+-- What each `Inputs`, each `Finished` and each `Derivation` keeps.
+use Rattle.std.specs.{Prelude.{◌≡◌, List, All, Option, IfSome}, declared.sync.Arc.{Arc}, declared.alloc.Global.{Global}}
 use Rattle.fb_deploy.specs.Library.Texts.{Texts}
 use Rattle.fb_jobs.specs.{Keys.{scratch}, Reads.{PlainJob, Seen, IsRight, read_texts, reads_for}, Values.{finding_of, all_seen, IsOwn}}
 use Rattle.fb_jobs.specs.{Work.{IsFoundFor}, declared.jobs.computed.Worked.{Worked}, declared.keys.key.Key.{Key}, declared.keys.read.Read.{Read}, declared.values.value.Value.{Value}}
@@ -27,3 +27,8 @@ IsValueOf it value = finding_of value ≡ scratch (read_texts it.reads) it.key
 pub record IsFinished (it : PlainJob) (work : Worked) : Type 0 where
   pub value_is : IsValueOf it work.value.value
   pub found_are : All (IsFoundFor (read_texts it.reads) it.key) work.found.items
+
+-- the value is that of what was read, from scratch; if what was read is kept too, it is that
+pub record IsDerivation (it : PlainJob) (value : Value) (inputs : Option (Arc PlainJob Global)) : Type 0 where
+  pub value_is : IsValueOf it value
+  pub inputs_are : IfSome inputs (λ kept. kept.value ≡ it)

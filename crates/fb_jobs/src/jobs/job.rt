@@ -167,14 +167,16 @@ impl Job {
         let Some(derivation) = &self.previous else {
             return Ok(None);
         };
+        let Some(before) = derivation.inputs() else {
+            return Ok(None);
+        };
         let value = derivation.value();
         let key = self.key();
-        if derivation.key() != key || !is_whole_value(value) {
+        if before.key() != key || !is_whole_value(value) {
             return Ok(None);
         }
-        let before = derivation.reads();
         let faultless = &self.cached.faultless;
-        if are_still_read(alloc, &key.unit, faultless, before, self.reads())? {
+        if are_still_read(alloc, &key.unit, faultless, before.reads(), self.reads())? {
             return Ok(Some(value));
         }
         Ok(None)

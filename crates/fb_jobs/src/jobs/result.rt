@@ -75,13 +75,18 @@ impl Finished {
         &self.work.value
     }
 
-    /// The value with the reads that give it.
-    pub fn derivation(&self) -> Result<Derivation, AllocError>
+    /// The value with the texts that give it, under a share of the key.
+    pub fn derivation(&self, key: Arc<Key>) -> Result<Derivation, AllocError>
+        requires { key.value ≡ self.now.key }
         ensures { IfOk result (λ made. made ≡ self.now) }
     {
-        let inputs = self.inputs.clone()?;
+        let texts = self.texts().clone()?;
         let value = self.work.value.clone()?;
-        Ok(Derivation::new(inputs, value))
+        let inputs = match self.key().kind.needs_all() {
+            true => Some(self.inputs.clone()?),
+            false => None,
+        };
+        Ok(Derivation::new(key, texts, value, inputs))
     }
 
     /// The nets of other units that were computed on the way, from scratch by the same reads.

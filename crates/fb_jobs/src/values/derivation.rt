@@ -1,27 +1,30 @@
 //! Values with the reads that gave them.
-ghost use Rattle.std.specs.Prelude.{◌≡◌, IfOk};
-ghost use Rattle.fb_jobs.specs.{Finished.{IsValueOf}, Keys.{scratch}, Reads.{IsRight, read_texts}, Values.{all_seen, finding_of}};
+ghost use Rattle.std.specs.Prelude.{◌≡◌, IfOk, IfSome};
+ghost use Rattle.fb_jobs.specs.{Finished.{IsDerivation}, Keys.{scratch}, Reads.{read_texts}, Values.{finding_of}};
 
 use crate::keys::inputs::Inputs;
 use crate::keys::key::Key;
-use crate::keys::read::Read;
 use crate::keys::texts::TextReads;
 use crate::values::value::Value;
 use std::alloc::AllocError;
 use std::marker::Model;
 use std::sync::Arc;
 
-/// A value of a key, with the reads that give it, and their texts. All are shared with all others that keep them.
+/// A value of a key, with the texts of the reads that give it. A net or a plan also keeps what was read, with the trees, since it may be left as it is.
 pub struct Derivation {
-    inputs: Arc<Inputs>,
+    key: Arc<Key>,
+    texts: Arc<TextReads>,
     value: Arc<Value>,
+    inputs: Option<Arc<Inputs>>,
 }
 
 impl Drop for Derivation {
     fn drop(self) {
         let Self {
-            inputs: _,
+            key: _,
+            texts: _,
             value: _,
+            inputs: _,
         } = self;
     }
 }
@@ -31,47 +34,64 @@ impl Model for Derivation {
 
     ghost Value = { PlainJob };
 
-    ghost use Rattle.fb_jobs.specs.Finished.{IsValueOf};
+    ghost use Rattle.fb_jobs.specs.Finished.{IsDerivation};
 
-    ghost view = { λ it. it.inputs.value };
+    ghost view = { λ it. record { key = it.key.value; reads = it.texts.value } };
 
-    ghost invariant = { λ it. IsValueOf it.inputs.value it.value.value };
+    ghost invariant = { λ it. IsDerivation (record { key = it.key.value; reads = it.texts.value }) it.value.value it.inputs };
 }
 
 impl Derivation {
-    pub(crate) fn new(inputs: Arc<Inputs>, value: Arc<Value>) -> Derivation
-        requires { IsValueOf inputs.value value.value }
-        ensures { result ≡ inputs.value }
+    pub(crate) fn new(
+        key: Arc<Key>,
+        texts: Arc<TextReads>,
+        value: Arc<Value>,
+        inputs: Option<Arc<Inputs>>,
+    ) -> Derivation
+        requires { IsDerivation (record { key = key.value; reads = texts.value }) value.value inputs }
+        ensures { result ≡ record { key = key.value; reads = texts.value } }
     {
-        Derivation { inputs, value }
+        Derivation {
+            key,
+            texts,
+            value,
+            inputs,
+        }
     }
 
     /// The same value of the same reads.
     pub fn share(&self) -> Result<Derivation, AllocError>
         ensures { IfOk result (λ made. made ≡ self.now) }
     {
-        let inputs = self.inputs.clone()?;
+        let key = self.key.clone()?;
+        let texts = self.texts.clone()?;
         let value = self.value.clone()?;
-        Ok(Derivation { inputs, value })
+        let inputs = match &self.inputs {
+            Some(inputs) => Some(inputs.clone()?),
+            None => None,
+        };
+        Ok(Derivation {
+            key,
+            texts,
+            value,
+            inputs,
+        })
     }
 
-    pub(crate) fn key(&self) -> Key
-        ensures { result ≡ self.now.key }
+    /// What was read, of a net or a plan.
+    pub(crate) fn inputs(&self) -> Option<&Inputs>
+        ensures { IfSome result (λ inputs. inputs.now ≡ self.now) }
     {
-        self.inputs.key()
-    }
-
-    pub(crate) fn reads(&self) -> &[Read]
-        ensures same { all_seen result.now ≡ self.now.reads }
-        ensures right { IsRight self.now }
-    {
-        self.inputs.reads()
+        match &self.inputs {
+            Some(inputs) => Some(inputs),
+            None => None,
+        }
     }
 
     pub(crate) fn texts(&self) -> &TextReads
         ensures { result.now ≡ self.now.reads }
     {
-        self.inputs.texts()
+        &self.texts
     }
 
     /// The value that the reads give from scratch.
