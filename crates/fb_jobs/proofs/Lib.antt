@@ -12,6 +12,7 @@ pub mod Searches
 pub mod TextLemmas
 pub mod ReplacedLemmas
 pub mod ReuseLemmas
+pub mod Again
 -- Of the crates below, for the crates above.
 pub use Rattle.fb_deploy.proofs.Library as Library
 pub use Rattle.fb_deploy.proofs.Flatten as Flatten

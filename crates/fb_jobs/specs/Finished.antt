@@ -1,17 +1,10 @@
 -- What each `Inputs`, each `Finished` and each `Derivation` keeps.
 use Rattle.std.specs.{Prelude.{◌≡◌, List, All, Option, IfSome}, declared.sync.Arc.{Arc}, declared.alloc.Global.{Global}}
-use Rattle.fb_deploy.specs.Library.Texts.{Texts}
-use Rattle.fb_jobs.specs.{Keys.{scratch}, Reads.{PlainJob, Seen, IsRight, read_texts, reads_for}, Values.{finding_of, all_seen, IsOwn}}
+use Rattle.fb_jobs.specs.{Keys.{scratch}, Reads.{PlainJob, Seen, IsRight, read_texts}, Values.{finding_of, all_seen, IsOwn}}
 use Rattle.fb_jobs.specs.{Work.{IsFoundFor}, declared.jobs.computed.Worked.{Worked}, declared.keys.key.Key.{Key}, declared.keys.read.Read.{Read}, declared.values.value.Value.{Value}}
 
 abbrev pub plain_job : Key → List Read → PlainJob
 plain_job key reads = record { key = key; reads = all_seen reads }
-
--- what the key needs is read of the library, each source is of the name that it was read under, and these are the texts
-pub record AreReads (library : Texts) (key : Key) (reads : List Read) (texts : List Seen) : Type 0 where
-  pub seen : all_seen reads ≡ reads_for library key
-  pub own : All IsOwn reads
-  pub kept : texts ≡ all_seen reads
 
 -- the reads are right for the key, each source is of the name that it was read under, and the texts are those of the reads
 pub record IsJob (key : Key) (reads : List Read) (texts : List Seen) : Type 0 where

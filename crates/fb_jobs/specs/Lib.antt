@@ -13,6 +13,7 @@ pub mod Hints
 pub mod Cached
 pub mod Work
 pub mod Reuse
+pub mod Again
 pub mod Finished
 -- Of the crates below, for the crates above.
 pub use Rattle.fb_deploy.specs.Parse as Parse

@@ -1,7 +1,7 @@
 -- What is read now, compared with what a value was computed from.
-use Rattle.std.specs.{Prelude.{◌≡◌, ◌⊎◌, ⊤, ℕ, Bool, true, false, List, Option, None, Some}, List.{AllZip}, Option.{option_map}}
+use Rattle.std.specs.{Prelude.{◌≡◌, ◌⊎◌, ⊤, ℕ, Bool, true, false, List, Option, None, Some}, List.{AllZip}, Option.{option_and_then, option_map}}
 use Rattle.fb_deploy.specs.{Deploy.{plain_deploy}, Plans.{is_whole_plan}, Flatten.Hints.{is_whole_net}, Flatten.Net.{plain_net}, Library.Texts.{Held, text_in}}
-use Rattle.fb_deploy.specs.{Library.View.{tree_of}, Flatten.Wiring.Local.{AreInterchangeableBlocks}}
+use Rattle.fb_deploy.specs.{Library.View.{mentions_of_tree, tree_of}, Flatten.Wiring.Local.{AreInterchangeableBlocks}}
 use Rattle.fb_jobs.specs.{declared.keys.key.Key.{Key}, declared.values.value.Value.{Value}, declared.values.value.Value.TheVariants.{Faults, Net, Deploy}, Keys.{scratch}}
 use Rattle.fb_jobs.specs.{Reads.{IsRight, Seen, read_texts}, Values.{finding_of}}
 
@@ -18,6 +18,10 @@ is_whole_value (Deploy deploy) = is_whole_plan (plain_deploy deploy)
 
 abbrev pub seen_text : Seen → Option (List ℕ)
 seen_text it = option_map text_in it.found
+
+-- what is read under a name mentions what it mentioned before
+abbrev pub MentionsTheSame : Seen → Seen → Type 0
+MentionsTheSame before now = mentions_of_tree (option_and_then tree_of (seen_text before)) ≡ mentions_of_tree (option_and_then tree_of (seen_text now))
 
 -- the text of a name on which the unit rests is the same, or it is another unit's and still a block type with the same interface
 abbrev pub IsStillText : List ℕ → List ℕ → List ℕ → List ℕ → Type 0

@@ -1,8 +1,10 @@
 //! The reads of a library for a key.
-ghost use Rattle.std.specs.Prelude.{◌≡◌, true, Some, None, All, IfOk};
+ghost use Rattle.std.specs.Prelude.{◌≡◌, true, Some, None, IfOk, IfSome};
 ghost use Rattle.fb_deploy.specs.Library.Texts.{held};
-ghost use Rattle.fb_jobs.specs.{Keys.{needs}, Finished.{AreReads}, Reads.{reads_under}, Texts.{seen_under, text_of}, Values.{all_seen, seen_of, IsOwn}};
+ghost use Rattle.fb_jobs.specs.{Again.{AreReads, AreReadUnder}, Keys.{needs}, Reads.{read_names}, Texts.{seen_under, text_of}, Values.{all_seen, seen_of, IsOwn}};
 
+use crate::kept::reuse::all_mention_the_same;
+use crate::keys::inputs::Inputs;
 use crate::keys::key::{Key, Kind};
 use crate::keys::read::Read;
 use crate::keys::read_list::ReadList;
@@ -81,9 +83,7 @@ fn read_all(
     library: &Library,
     names: &[Name],
 ) -> Result<(Vec<Read>, ReadList), AllocError>
-    ensures seen { IfOk result (λ made. all_seen made.0.items ≡ reads_under library.now names.now) }
-    ensures own { IfOk result (λ made. All IsOwn made.0.items) }
-    ensures kept { IfOk result (λ made. made.1 ≡ all_seen made.0.items) }
+    ensures { IfOk result (λ made. AreReadUnder library.now names.now made.0.items made.1) }
 {
     let mut reads = Vec::with_capacity(alloc, names.len())?;
     let mut texts = ReadList::with_capacity(alloc, names.len())?;
@@ -96,8 +96,78 @@ fn read_all(
     Ok((reads, texts))
 }
 
-/// What a job for the key reads, by a walk from text to text, and what is kept of that: the texts of a value that the key had, but for those that are
-/// replaced, if few are.
+/// The names under which these were read.
+fn names_of(alloc: Global, reads: &[Read]) -> Result<Vec<Name>, AllocError>
+    ensures { IfOk result (λ names. names.items ≡ read_names (all_seen reads.now)) }
+{
+    let mut names = Vec::with_capacity(alloc, reads.len())?;
+    for read in reads {
+        names.push(read.name())?;
+    }
+    Ok(names)
+}
+
+/// What is read now under the names of earlier reads, and what is kept of that. None if one of the names mentions something else now; if not, the key still
+/// needs the same names.
+fn read_again(
+    alloc: Global,
+    library: &Library,
+    before: &Inputs,
+) -> Result<Option<(Vec<Read>, ReadList)>, AllocError>
+    ensures { IfOk result (λ again. IfSome again
+        (λ made. AreReads library.now before.now.key made.0.items made.1)) }
+{
+    let names = names_of(alloc, before.reads())?;
+    let (reads, texts) = read_all(alloc, library, &names)?;
+    if !all_mention_the_same(before.reads(), &reads) {
+        return Ok(None);
+    }
+    Ok(Some((reads, texts)))
+}
+
+/// What a job for the key reads, by the names that were read for it before, if that serves.
+fn reads_as_before(
+    alloc: Global,
+    library: &Library,
+    key: Key,
+    previous: &Option<Derivation>,
+) -> Result<Option<(Vec<Read>, ReadList)>, AllocError>
+    ensures { IfOk result
+        (λ again. IfSome again (λ made. AreReads library.now key made.0.items made.1)) }
+{
+    let Some(derivation) = previous else {
+        return Ok(None);
+    };
+    let Some(inputs) = derivation.inputs() else {
+        return Ok(None);
+    };
+    if inputs.key() != key {
+        return Ok(None);
+    }
+    read_again(alloc, library, inputs)
+}
+
+/// What a job for the key reads, and what is kept of that.
+fn reads_for(
+    alloc: Global,
+    library: &Library,
+    key: Key,
+    previous: &Option<Derivation>,
+) -> Result<(Vec<Read>, ReadList), AllocError>
+    ensures { IfOk result (λ made. AreReads library.now key made.0.items made.1) }
+{
+    // For the proof: the key is named before the call gets it.
+    let wanted = key;
+    match reads_as_before(alloc, library, wanted, previous)? {
+        Some(made) => Ok(made),
+        None => {
+            let names = needed(alloc, library, key)?;
+            read_all(alloc, library, &names)
+        }
+    }
+}
+
+/// What a job for the key reads, and what is kept of that: the texts of a value that the key had, but for those that are replaced, if few are.
 pub(crate) fn reads_of(
     alloc: Global,
     library: &Library,
@@ -106,8 +176,7 @@ pub(crate) fn reads_of(
 ) -> Result<(Vec<Read>, TextReads), AllocError>
     ensures { IfOk result (λ made. AreReads library.now key made.0.items made.1) }
 {
-    let names = needed(alloc, library, key)?;
-    let (reads, texts) = read_all(alloc, library, &names)?;
+    let (reads, texts) = reads_for(alloc, library, key, previous)?;
     let texts = match previous {
         Some(derivation) => derivation.texts().renewed(alloc, texts)?,
         None => TextReads::of_list(alloc, texts)?,

@@ -129,11 +129,7 @@ impl TextReads {
     }
 
     /// These texts but for some, which are replaced.
-    fn replaced(
-        &self,
-        alloc: Global,
-        mut later: Vec<Replacement>,
-    ) -> Result<TextReads, AllocError>
+    fn replaced(&self, alloc: Global, mut later: Vec<Replacement>) -> Result<TextReads, AllocError>
         ensures { IfOk result (λ texts. texts ≡ all_replaced self.now later.items) }
     {
         let mut replacements = shared(alloc, &self.replacements, later.len())?;
