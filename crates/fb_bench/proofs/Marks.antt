@@ -4,8 +4,8 @@ use Rattle.std.proofs.lemmas.{Bool.{and_parts}, Bool.Decides.{nat_tests}, Cmp.{n
 use Rattle.std.specs.{Option.{option_map}, BTreeMap.{is_at}, List.{list_any}, Map.{lookup}, declared.sync.Arc.{Arc}, declared.alloc.Global.{Global}}
 use Rattle.fb_entries.specs.{Keyed.{Keyed, IsFirstReady, can_take, entry_at}, Library.Texts.{Texts, Held, held}, Jobs.declared.keys.key.Key.{Key}}
 use Rattle.fb_entries.specs.{Jobs.declared.values.value.Value.{Value}, Jobs.Values.{finding_of}, Jobs.Hints.{AreKept}, Jobs.Keys.{Finding, has_key, needs, scratch}}
-use Rattle.fb_entries.specs.{Jobs.KeyOrder.{key_cmp, same_key}, declared.entry.Entry.{Entry}, Jobs.Reads.{PlainJob, reads_under, same_found, stale}, Found.{found_in, kept_in}}
-use Rattle.fb_entries.specs.Marking.{unless_kept, with_found, with_out, with_value, ChangesEntry, MarksKey, SameKeys}
+use Rattle.fb_entries.specs.{Jobs.KeyOrder.{key_cmp, same_key}, declared.entry.Entry.{Entry}, Jobs.Reads.{PlainJob, reads_under, same_found, stale}, Found.{found_in, kept_in}, Jobs.Finished.{value_of}}
+use Rattle.fb_entries.specs.Marking.{unless_kept, value_in, with_found, with_out, with_value, ChangesEntry, MarksKey, SameKeys}
 use Rattle.fb_history.specs.Machine.{State, OfTake, ToTake, is_ready, next, after_take, after_deliver, removed, taken, taken_job, unless_stale, deliver_answer}
 use Rattle.fb_history.specs.BenchView.{BenchView, recorded, reply_at, state_of}
 use Rattle.fb_history.specs.{declared.answers.Delivered.{Delivered}, declared.answers.Delivered.TheVariants.{Accepted, NoSuchKey, NotPending, Stale}}
@@ -21,17 +21,16 @@ pub ready_has : (s : State) (k : Key) (o : Option Entry) → EntryFits s k o →
 ready_has s k None fits ready = let no : is_ready s k ≡ false = ap (λ b. b && not (s.out k)) fits.1 in cc
 ready_has s k (Some it) fits ready = fits.0
 
-kept_value : (texts : Texts) (k : Key) (value : Option (Arc Value Global)) (finding : Finding) → IsScratch texts k value → option_map (λ it. finding_of it.value) value ≡ Some finding → finding ≡ scratch texts k
-kept_value texts k None finding is e = cc
-kept_value texts k (Some value) finding is e = let one : finding ≡ finding_of value.value = cc in one ∙ is
+kept_value : (texts : Texts) (k : Key) (value : Option Finding) (finding : Finding) → IsScratch texts k value → value ≡ Some finding → finding ≡ scratch texts k
+kept_value texts k value finding is e = subst (IsScratch texts k) e is
 
 entry_kept : (s : State) (k : Key) (o : Option Entry) (finding : Finding) → EntryFits s k o → kept_in o ≡ Some finding → finding ≡ scratch s.units k
 entry_kept s k None finding fits e = cc
-entry_kept s k (Some it) finding fits e = kept_value s.units k it.value finding fits.3 e
+entry_kept s k (Some it) finding fits e = kept_value s.units k (value_in it) finding fits.3 e
 
 entry_found : (s : State) (k : Key) (o : Option Entry) (finding : Finding) → EntryFits s k o → found_in o ≡ Some finding → finding ≡ scratch s.units k
 entry_found s k None finding fits e = cc
-entry_found s k (Some it) finding fits e = kept_value s.units k it.found finding fits.4 e
+entry_found s k (Some it) finding fits e = kept_value s.units k (found_in (Some it)) finding fits.4 e
 
 -- the values that are kept are those of the texts
 pub all_kept : {units : Texts} {commits : ℕ} {entries : Keyed} {s : State} → Agrees units commits entries s → AreKept units (λ key. kept_in (entry_at entries key))
@@ -80,22 +79,22 @@ agrees_take units commits old new s k agrees ready marked left = record {
 
 -- ---- after a result that is accepted
 
-pub deliver_fits : (s : State) (k q : Key) (o : Option Entry) (v : Arc Value Global) (made : PlainJob) (b : Bool) → same_key k q ≡ b → finding_of v.value ≡ scratch s.units k → EntryFits s q o → EntryFits (after_deliver Accepted k s) q (cond b (option_map (with_value v made) o) o)
-deliver_fits s k q None v made true same value fits = (fits.0, ap (λ b. not b && s.pending q) same, ap (λ b. not b && s.out q) same)
-deliver_fits s k q (Some it) v made true same value fits =
+pub deliver_fits : (s : State) (k q : Key) (o : Option Entry) (made : PlainJob) (b : Bool) → same_key k q ≡ b → value_of made ≡ scratch s.units k → EntryFits s q o → EntryFits (after_deliver Accepted k s) q (cond b (option_map (with_value made) o) o)
+deliver_fits s k q None made true same value fits = (fits.0, ap (λ b. not b && s.pending q) same, ap (λ b. not b && s.out q) same)
+deliver_fits s k q (Some it) made true same value fits =
     (fits.0, ap (λ b. not b && s.pending q) same, ap (λ b. not b && s.out q) same, value ∙ ap (λ x. scratch s.units x) (keys_equal k q same), tt)
-deliver_fits s k q None v made false same value fits = (fits.0, ap (λ b. not b && s.pending q) same ∙ fits.1, ap (λ b. not b && s.out q) same ∙ fits.2)
-deliver_fits s k q (Some it) v made false same value fits = (fits.0, ap (λ b. not b && s.pending q) same ∙ fits.1, ap (λ b. not b && s.out q) same ∙ fits.2, fits.3, fits.4)
+deliver_fits s k q None made false same value fits = (fits.0, ap (λ b. not b && s.pending q) same ∙ fits.1, ap (λ b. not b && s.out q) same ∙ fits.2)
+deliver_fits s k q (Some it) made false same value fits = (fits.0, ap (λ b. not b && s.pending q) same ∙ fits.1, ap (λ b. not b && s.out q) same ∙ fits.2, fits.3, fits.4)
 
 pub deliver_ready : (s : State) (k q : Key) (b now : Bool) → same_key k q ≡ b → now ≡ is_ready s q → cond b false now ≡ is_ready (after_deliver Accepted k s) q
 deliver_ready s k q true now same was = sym (ap (λ b. (not b && s.pending q) && not (not b && s.out q)) same)
 deliver_ready s k q false now same was = was ∙ sym (ap (λ b. (not b && s.pending q) && not (not b && s.out q)) same)
 
-pub agrees_deliver : (units : Texts) (commits : ℕ) (old new : Keyed) (s : State) (k : Key) (v : Arc Value Global) (made : PlainJob) → Agrees units commits old s → finding_of v.value ≡ scratch s.units k → ChangesEntry k (with_value v made) (entry_at old) (entry_at new) → MarksKey k false (can_take old) (can_take new) → Agrees units commits new (after_deliver Accepted k s)
-agrees_deliver units commits old new s k v made agrees value marked left = record {
+pub agrees_deliver : (units : Texts) (commits : ℕ) (old new : Keyed) (s : State) (k : Key) (made : PlainJob) → Agrees units commits old s → value_of made ≡ scratch s.units k → ChangesEntry k (with_value made) (entry_at old) (entry_at new) → MarksKey k false (can_take old) (can_take new) → Agrees units commits new (after_deliver Accepted k s)
+agrees_deliver units commits old new s k made agrees value marked left = record {
   units_are = agrees.units_are;
   commits_are = agrees.commits_are;
-  each = λ q. subst (λ o. EntryFits (after_deliver Accepted k s) q o) (sym (marked q)) (deliver_fits s k q (entry_at old q) v made (same_key k q) refl value (agrees.each q));
+  each = λ q. subst (λ o. EntryFits (after_deliver Accepted k s) q o) (sym (marked q)) (deliver_fits s k q (entry_at old q) made (same_key k q) refl value (agrees.each q));
   ready_are = λ q. left q ∙ deliver_ready s k q (same_key k q) (can_take old q) refl (agrees.ready_are q);
 }
 
@@ -207,14 +206,14 @@ agrees_same units commits old new s agrees same keys = record {
 
 -- ---- after a net was found for a key
 
-unless_scratch : (texts : Texts) (q : Key) (value : Option (Arc Value Global)) (found : Arc Value Global) → finding_of found.value ≡ scratch texts q → IsScratch texts q (unless_kept value found)
+unless_scratch : (texts : Texts) (q : Key) (value : Option Finding) (found : Arc Value Global) → finding_of found.value ≡ scratch texts q → IsScratch texts q (option_map (λ it. finding_of it.value) (unless_kept value found))
 unless_scratch texts q None found is = is
 unless_scratch texts q (Some value) found is = tt
 
 found_fits : (s : State) (k q : Key) (o : Option Entry) (v : Arc Value Global) (b : Bool) → same_key k q ≡ b → finding_of v.value ≡ scratch s.units k → EntryFits s q o → EntryFits s q (cond b (option_map (with_found v) o) o)
 found_fits s k q None v true same value fits = fits
 found_fits s k q (Some it) v true same value fits =
-    (fits.0, fits.1, fits.2, fits.3, unless_scratch s.units q it.value v (value ∙ ap (λ x. scratch s.units x) (keys_equal k q same)))
+    (fits.0, fits.1, fits.2, fits.3, unless_scratch s.units q (value_in it) v (value ∙ ap (λ x. scratch s.units x) (keys_equal k q same)))
 found_fits s k q o v false same value fits = fits
 
 pub agrees_found : (units : Texts) (commits : ℕ) (old new : Keyed) (s : State) (k : Key) (v : Arc Value Global) → Agrees units commits old s → finding_of v.value ≡ scratch s.units k → ChangesEntry k (with_found v) (entry_at old) (entry_at new) → new.ready ≡ old.ready → Agrees units commits new s

@@ -1,13 +1,13 @@
 -- The entries after a commit.
 use Rattle.std.proofs.Common.{◌≡◌, ℕ, Bool, true, false, ◌||◌, ◌&&◌, not, List, [], ◌∷◌, map, refl, sym, ap, ◌∙◌, subst, Option, Some, None, cond}
 use Rattle.std.proofs.lemmas.Cmp.{eq_by_cmp_equiv}
-use Rattle.std.specs.{Map.{remove_entry}, BTreeMap.{is_at, insert_entry}, Ordering.{match_ordering}, declared.sync.Arc.{Arc}}
-use Rattle.std.specs.{declared.alloc.Global.{Global}, declared.cmp.Ordering.TheVariants.{Less, Equal, Greater}, Option.{option_map}}
+use Rattle.std.specs.{Map.{remove_entry}, BTreeMap.{is_at, insert_entry}, Ordering.{match_ordering}}
+use Rattle.std.specs.{declared.cmp.Ordering.TheVariants.{Less, Equal, Greater}, Option.{option_map}}
 use Rattle.fb_text.proofs.{Tests.{or_false, and_false, and_true}, OrderLemmas.{is_equal}}
 use Rattle.fb_entries.proofs.Library.Names.{exact_name, name_total}
 use Rattle.fb_entries.specs.{Library.Texts.{Texts, Held, held, text_in, Edit, Puts, Removes, unit_of, edited, all_edited}, Jobs.declared.keys.key.Key.{Key}}
-use Rattle.fb_entries.specs.{Jobs.declared.values.value.Value.{Value}, Jobs.Keys.{has_key, needs, scratch}, Jobs.Reads.{is_among, Agree}, declared.entry.Entry.{Entry}}
-use Rattle.fb_entries.specs.Marking.{waiting}
+use Rattle.fb_entries.specs.{Jobs.Keys.{Finding, has_key, needs, scratch}, Jobs.Reads.{is_among, Agree}, declared.entry.Entry.{Entry}}
+use Rattle.fb_entries.specs.{Found.{found_in}, Marking.{value_in, waiting}}
 use Rattle.fb_text.specs.Order.{name_cmp}
 use Rattle.fb_history.specs.Machine.{State, after_done, reaches}
 use Rattle.fb_bench.specs.Consistent.{EntryFits, IsScratch}
@@ -58,7 +58,7 @@ flips a b = (eq_by_cmp_equiv name_total).symm a b
 
 -- ---- one entry
 
-kept_value : (T U : Texts) (k : Key) (value : Option (Arc Value Global)) → scratch T k ≡ scratch U k → IsScratch T k value → IsScratch U k value
+kept_value : (T U : Texts) (k : Key) (value : Option Finding) → scratch T k ≡ scratch U k → IsScratch T k value → IsScratch U k value
 kept_value T U k None law was = tt
 kept_value T U k (Some v) law was = was ∙ law
 
@@ -96,8 +96,8 @@ module _ (commit : ℕ) (es : List Edit) (s : State) (q : Key) where
         has,
         (λ i. has i && ((s.pending q || not (fits.0 i)) || missed i)) ∙ or_false _ ∙ or_false _ ∙ fits.1,
         (λ i. ((has i && fits.0 i) && s.out q) && not (missed i)) ∙ and_true _ ∙ fits.2,
-        kept_value s.units later q it.value (law later s.units q agree) fits.3,
-        kept_value s.units later q it.found (law later s.units q agree) fits.4,
+        kept_value s.units later q (value_in it) (law later s.units q agree) fits.3,
+        kept_value s.units later q (found_in (Some it)) (law later s.units q agree) fits.4,
       )
 
   -- a key that the texts after the commit don't have

@@ -1,19 +1,19 @@
 -- What a workbench keeps beside its history agrees with where the history has led.
-use Rattle.std.specs.{Prelude.{◌≡◌, ℕ, ◌≤◌, true, false, Option, Some, None, is_none}, declared.sync.Arc.{Arc}, declared.alloc.Global.{Global}}
-use Rattle.fb_entries.specs.{Keyed.{Keyed, can_take, entry_at}, Library.Texts.{Texts}, Jobs.declared.keys.key.Key.{Key}, Jobs.declared.values.value.Value.{Value}}
-use Rattle.fb_entries.specs.{Jobs.Keys.{has_key, scratch}, Jobs.Values.{finding_of}, declared.entry.Entry.{Entry}, Index.Indexed.{Indexed}, Indexed.{IsIndexOf}}
+use Rattle.std.specs.Prelude.{◌≡◌, ℕ, ◌≤◌, true, false, Option, Some, None}
+use Rattle.fb_entries.specs.{Keyed.{Keyed, can_take, entry_at}, Library.Texts.{Texts}, Jobs.declared.keys.key.Key.{Key}}
+use Rattle.fb_entries.specs.{Jobs.Keys.{Finding, has_key, scratch}, Found.{found_in}, Marking.{is_unkept, value_in}, declared.entry.Entry.{Entry}, Index.Indexed.{Indexed}, Indexed.{IsIndexOf}}
 use Rattle.fb_history.specs.{Machine.{State, is_ready}, BenchView.{BenchView, IsOrigin, last_number, state_of, IsReplay}}
 
 -- a kept value is the key's value from scratch
-abbrev pub IsScratch : Texts → Key → Option (Arc Value Global) → Type 0
+abbrev pub IsScratch : Texts → Key → Option Finding → Type 0
 IsScratch texts key None = Unit {0}
-IsScratch texts key (Some value) = finding_of value.value ≡ scratch texts key
+IsScratch texts key (Some finding) = finding ≡ scratch texts key
 
 -- an entry for each key of the texts, and for no other, with its marks, its value and what was found for it
 abbrev pub EntryFits : State → Key → Option Entry → Type 0
 EntryFits state key None = (has_key state.units key ≡ false) × (state.pending key ≡ false) × (state.out key ≡ false)
 EntryFits state key (Some it) =
-    (has_key state.units key ≡ true) × (state.pending key ≡ is_none it.value) × (state.out key ≡ it.out) × IsScratch state.units key it.value × IsScratch state.units key it.found
+    (has_key state.units key ≡ true) × (state.pending key ≡ is_unkept it) × (state.out key ≡ it.out) × IsScratch state.units key (value_in it) × IsScratch state.units key (found_in (Some it))
 
 -- what is kept agrees with a state
 pub record Agrees (units : Texts) (commits : ℕ) (entries : Keyed) (state : State) : Type 0 where

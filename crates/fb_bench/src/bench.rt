@@ -198,11 +198,11 @@ impl Bench {
             return Ok((Asked::NoSuchKey, Reply::NoSuchKey, own));
         };
         let shared = entry.share_of(self.alloc, key)?;
-        match &entry.value {
+        match entry.value() {
             None => Ok((Asked::Pending, Reply::Pending, shared)),
             Some(kept) => {
-                let answer = kept.shared().clone()?;
-                let stored = kept.shared().clone()?;
+                let answer = kept.value().clone()?;
+                let stored = kept.value().clone()?;
                 Ok((Asked::Value(answer), Reply::Value(stored), shared))
             }
         }
@@ -263,9 +263,9 @@ impl Bench {
     {
         match self.entries.get(key) {
             None => Shown::NoSuchKey,
-            Some(entry) => match &entry.value {
+            Some(entry) => match entry.value() {
                 None => Shown::Pending,
-                Some(kept) => Shown::Value(kept.shared()),
+                Some(kept) => Shown::Value(kept.value()),
             },
         }
     }
@@ -276,9 +276,9 @@ impl Bench {
     {
         match self.entries.get(key) {
             None => Ok(Asked::NoSuchKey),
-            Some(entry) => match &entry.value {
+            Some(entry) => match entry.value() {
                 None => Ok(Asked::Pending),
-                Some(kept) => Ok(Asked::Value(kept.shared().clone()?)),
+                Some(kept) => Ok(Asked::Value(kept.value().clone()?)),
             },
         }
     }
@@ -528,14 +528,13 @@ impl Bench {
         current_reads();
         current_nets();
         let shared = self.shared_key(finished.key())?;
-        let value = finished.value().clone()?;
         let derivation = finished.derivation(shared.clone()?)?;
         let call = call_of_result(shared, finished)?;
         let found = shares_of(self.alloc, finished.found())?;
         let answer = Reply::Accepted;
         let share = self.history.push(caller, call, answer)?;
         let key = finished.key();
-        self.entries.keep(&key, value, derivation);
+        self.entries.keep(&key, derivation);
         keep_all(&mut self.entries, found);
         Ok(share)
     }
@@ -573,7 +572,7 @@ impl Bench {
     {
         match self.entries.get(key) {
             None => false,
-            Some(entry) => entry.value.is_none(),
+            Some(entry) => entry.value().is_none(),
         }
     }
 
@@ -786,7 +785,7 @@ impl Bench {
         match self.entries.get(&key) {
             None => Delivered::NoSuchKey,
             Some(entry) => {
-                if entry.value.is_some() {
+                if entry.value().is_some() {
                     return Delivered::NotPending;
                 }
                 match first_stale(&self.library, reads) {

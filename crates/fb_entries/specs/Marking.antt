@@ -1,7 +1,7 @@
 -- What small steps write to entries and to sets of keys.
 use Rattle.std.specs.{Prelude.{◌≡◌, Bool, true, false, List, map, filter, Option, Some, None, is_none, if◌then◌else◌}, List.{list_any}, Option.{option_map}}
 use Rattle.std.specs.{declared.sync.Arc.{Arc}, declared.alloc.Global.{Global}}
-use Rattle.fb_jobs.specs.{declared.keys.key.Key.{Key}, declared.values.value.Value.{Value}, KeyOrder.{same_key}, Reads.{PlainJob}}
+use Rattle.fb_jobs.specs.{declared.keys.key.Key.{Key}, declared.values.value.Value.{Value}, KeyOrder.{same_key}, Reads.{PlainJob}, Finished.{value_of}, Keys.{Finding}}
 use Rattle.fb_entries.specs.declared.entry.Entry.{Entry}
 
 -- whether the key is one of these
@@ -12,11 +12,15 @@ is_of key keys = list_any (same_key key) keys
 
 -- an entry that waits for a result
 abbrev pub blank : Arc Key Global → Entry
-blank key = record { key = key; value = None; out = false; found = None; previous = None }
+blank key = record { key = key; is_pending = true; out = false; found = None; last = None }
+
+-- its value: what the last one was computed from gives, unless it is pending
+abbrev pub value_in : Entry → Option Finding
+value_in it = if it.is_pending then None else option_map value_of it.last
 
 -- an entry that has no value
 abbrev pub is_unkept : Entry → Bool
-is_unkept it = is_none it.value
+is_unkept it = is_none (value_in it)
 
 -- an entry that is handed out
 abbrev pub is_handed_out : Entry → Bool
@@ -30,22 +34,22 @@ keys_with passes entries = map (λ (e : Key × Entry). e.0) (filter (λ (e : Key
 abbrev pub with_out : Bool → Entry → Entry
 with_out out it = record it { out = out }
 
--- an entry that is not handed out, with this value, and with what made it
-abbrev pub with_value : Arc Value Global → PlainJob → Entry → Entry
-with_value value made it = record it { value = Some value; out = false; found = None; previous = Some made }
+-- an entry that is not handed out, with the value that this gives
+abbrev pub with_value : PlainJob → Entry → Entry
+with_value made it = record it { is_pending = false; out = false; found = None; last = Some made }
 
 -- what was found for an entry that has no value
-abbrev pub unless_kept : Option (Arc Value Global) → Arc Value Global → Option (Arc Value Global)
+abbrev pub unless_kept : Option Finding → Arc Value Global → Option (Arc Value Global)
 unless_kept None found = Some found
 unless_kept (Some value) found = None
 
 -- an entry for which this was found
 abbrev pub with_found : Arc Value Global → Entry → Entry
-with_found found it = record it { found = unless_kept it.value found }
+with_found found it = record it { found = unless_kept (value_in it) found }
 
 -- an entry that waits for a result again: what was found for it is gone
 abbrev pub waiting : Entry → Entry
-waiting it = record it { value = None; out = false; found = None }
+waiting it = record it { is_pending = true; out = false; found = None }
 
 -- the entry of a key, which waits for a result again if it is renewed
 abbrev pub waiting_if : Bool → Option Entry → Option Entry

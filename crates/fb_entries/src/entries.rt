@@ -249,12 +249,12 @@ impl Entries {
         leave(&mut self.ready, key);
     }
 
-    /// Gives a key its value, with what made it; it is not handed out then, and can't be taken.
-    pub fn keep(&mut self, key: &Key, value: Arc<Value>, derivation: Derivation)
-        ensures entries { ChangesEntry key.now (with_value value derivation) (entry_at self.old) (entry_at self.new) }
+    /// Gives a key its value, with what gave it; it is not handed out then, and can't be taken.
+    pub fn keep(&mut self, key: &Key, derivation: Derivation)
+        ensures entries { ChangesEntry key.now (with_value derivation) (entry_at self.old) (entry_at self.new) }
         ensures ready { MarksKey key.now false (can_take self.old) (can_take self.new) }
     {
-        self.by_key.keep(key, value, derivation);
+        self.by_key.keep(key, derivation);
         leave(&mut self.ready, key);
     }
 
@@ -275,7 +275,7 @@ fn pending_keys(alloc: Global, entries: &BTreeMap<Key, Entry>) -> Result<Vec<Key
 {
     let mut keys = Vec::new(alloc);
     for (key, entry) in entries.iter() {
-        if entry.value.is_none() {
+        if entry.value().is_none() {
             keys.push(*key)?;
         }
     }
@@ -303,7 +303,7 @@ impl Cache for Entries {
     ghost found = { λ it key. found_in (entry_at it key) };
 
     fn value(&self, key: &Key) -> Option<&Arc<Value>> {
-        Some(self.by_key.get(key)?.value.as_ref()?.shared())
+        Some(self.by_key.get(key)?.value()?.value())
     }
 
     fn has_faults(&self, unit: &Name) -> Option<bool> {
@@ -311,7 +311,7 @@ impl Cache for Entries {
             kind: Kind::Faults,
             unit: *unit,
         };
-        self.by_key.get(&key)?.value.as_ref()?.has_faults()
+        self.by_key.get(&key)?.value()?.has_faults()
     }
 
     fn found(&self, key: &Key) -> Option<&Arc<Value>> {
@@ -319,6 +319,6 @@ impl Cache for Entries {
     }
 
     fn previous(&self, key: &Key) -> Option<&Derivation> {
-        self.by_key.get(key)?.previous.as_ref()
+        self.by_key.get(key)?.last.as_ref()
     }
 }

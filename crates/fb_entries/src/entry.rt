@@ -1,11 +1,11 @@
 //! What is kept of a key.
 //! That an entry has the key that it is found under is no invariant: `share_of` compares the two keys, which costs less.
-ghost use Rattle.std.specs.Prelude.{◌≡◌, true, false, IfOk, OnOk, OnErr};
+ghost use Rattle.std.specs.{Prelude.{◌≡◌, true, false, IfOk, OnOk, OnErr}, Option.{option_map}};
 ghost use Rattle.std.specs.BTreeSet as set;
-ghost use Rattle.fb_jobs.specs.KeyOrder.{key_cmp};
-ghost use Rattle.fb_entries.specs.Marking.{blank, MarksKey, SameKeys};
+ghost use Rattle.fb_jobs.specs.{KeyOrder.{key_cmp}, Finished.{value_of}};
+ghost use Rattle.fb_entries.specs.Marking.{blank, value_in, MarksKey, SameKeys};
 
-use fb_jobs::{Derivation, KeptValue, Key, Value};
+use fb_jobs::{Derivation, Key, Value};
 use std::alloc::{AllocError, Global};
 use std::collections::BTreeSet;
 use std::sync::Arc;
@@ -14,24 +14,24 @@ use std::sync::Arc;
 pub struct Entry {
     /// The key, to be shared with what is recorded of it.
     pub key: Arc<Key>,
-    /// Its value, unless it is pending.
-    pub value: Option<KeptValue>,
+    /// Whether it waits for a result.
+    pub is_pending: bool,
     /// Whether it is handed out.
     pub out: bool,
     /// The value of a pending key, if a job for another key computed it on the way.
     pub found: Option<Arc<Value>>,
-    /// The value that it had last, with the texts that gave it: a result that equals it shares it.
-    pub previous: Option<Derivation>,
+    /// Its value, with what gave it, or the one that it had before it was pending: a result that equals that shares it.
+    pub last: Option<Derivation>,
 }
 
 impl Drop for Entry {
     fn drop(self) {
         let Self {
             key: _,
-            value: _,
+            is_pending: _,
             out: _,
             found: _,
-            previous: _,
+            last: _,
         } = self;
     }
 }
@@ -43,11 +43,21 @@ impl Entry {
     {
         Entry {
             key,
-            value: None,
+            is_pending: true,
             out: false,
             found: None,
-            previous: None,
+            last: None,
         }
+    }
+
+    /// Its value, with what gave it, unless it is pending.
+    pub fn value(&self) -> Option<&Derivation>
+        ensures { option_map (λ it. value_of it.now) result ≡ value_in self.now }
+    {
+        if self.is_pending {
+            return None;
+        }
+        self.last.as_ref()
     }
 
     /// A share of the key: the entry's own if that is the same.

@@ -1,10 +1,10 @@
 //! The entries by their keys, and how many of them are pending.
 ghost use Rattle.std.specs.Prelude.{◌≡◌, [], if◌then◌else◌, count_by, OnOk, OnErr};
 ghost use Rattle.std.specs.{Option.{option_copied}, Map.{values_of}};
-ghost use Rattle.fb_entries.specs.{Keyed.{entry_in}, Marking.{is_unkept, unless_kept, with_found, with_out, with_value, ChangesEntry, LosesEntry, PutsEntry, RenewsEntry}};
+ghost use Rattle.fb_entries.specs.{Keyed.{entry_in}, Marking.{is_unkept, unless_kept, value_in, with_found, with_out, with_value, ChangesEntry, LosesEntry, PutsEntry, RenewsEntry}};
 
 use crate::entry::Entry;
-use fb_jobs::{Derivation, KeptValue, Key, Value};
+use fb_jobs::{Derivation, Key, Value};
 use std::alloc::{AllocError, Global};
 use std::collections::BTreeMap;
 use std::marker::Model;
@@ -41,17 +41,17 @@ impl Model for EntryMap {
 fn one_if_pending(entry: &Entry) -> usize
     ensures { result ≡ (if is_unkept entry.now then 1 else 0) }
 {
-    match entry.value {
+    match entry.value() {
         None => 1,
         Some(_) => 0,
     }
 }
 
-/// What was found for an entry that has this value: nothing, if it has one.
-fn unless_kept(value: &Option<KeptValue>, found: Arc<Value>) -> Option<Arc<Value>>
-    ensures { result ≡ unless_kept value.now found }
+/// What was found for an entry: nothing, if it has a value.
+fn unless_kept(entry: &Entry, found: Arc<Value>) -> Option<Arc<Value>>
+    ensures { result ≡ unless_kept (value_in entry.now) found }
 {
-    match value {
+    match entry.value() {
         Some(_) => None,
         None => Some(found),
     }
@@ -126,18 +126,18 @@ impl EntryMap {
         entry.out = out;
     }
 
-    /// Gives a key that has an entry its value, with what made it; the key is not handed out then.
-    pub fn keep(&mut self, key: &Key, value: Arc<Value>, derivation: Derivation)
-        ensures { ChangesEntry key.now (with_value value derivation) (entry_in self.old) (entry_in self.new) }
+    /// Gives a key that has an entry its value, with what gave it; the key is not handed out then.
+    pub fn keep(&mut self, key: &Key, derivation: Derivation)
+        ensures { ChangesEntry key.now (with_value derivation) (entry_in self.old) (entry_in self.new) }
     {
         let Some(entry) = self.entries.get_mut(key) else {
             return;
         };
         let was = one_if_pending(entry);
-        entry.value = Some(KeptValue::new(value));
+        entry.is_pending = false;
         entry.out = false;
         entry.found = None;
-        entry.previous = Some(derivation);
+        entry.last = Some(derivation);
         self.pending -= was;
     }
 
@@ -148,7 +148,7 @@ impl EntryMap {
         let Some(entry) = self.entries.get_mut(key) else {
             return;
         };
-        entry.found = unless_kept(&entry.value, found);
+        entry.found = unless_kept(entry, found);
     }
 
     /// Lets a key that has an entry wait for a result; the key is not handed out then, and what was found for it is dropped.
@@ -161,7 +161,7 @@ impl EntryMap {
             return;
         };
         let was = one_if_pending(entry);
-        entry.value = None;
+        entry.is_pending = true;
         let _ = entry.found.take();
         entry.out = false;
         self.pending = self.pending + 1 - was;

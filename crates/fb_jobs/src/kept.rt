@@ -2,5 +2,4 @@
 pub(crate) mod cache;
 pub(crate) mod cached;
 pub(crate) mod hints;
-pub(crate) mod kept_value;
 pub(crate) mod reuse;

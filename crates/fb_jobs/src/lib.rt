@@ -11,7 +11,6 @@ pub use jobs::job::Job;
 pub use jobs::result::Finished;
 pub use kept::cache::Cache;
 pub use kept::hints::Hint;
-pub use kept::kept_value::KeptValue;
 pub use keys::key::{Key, Kind};
 pub use keys::kinds::{all_kinds, keys_by_name, keys_near_and_far};
 pub use keys::read::{Read, has_key, has_net_and_plan};

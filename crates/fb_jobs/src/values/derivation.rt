@@ -1,6 +1,6 @@
 //! Values with the reads that gave them.
-ghost use Rattle.std.specs.Prelude.{◌≡◌, IfOk, IfSome};
-ghost use Rattle.fb_jobs.specs.{Finished.{IsDerivation}, Keys.{scratch}, Reads.{read_texts}, Values.{finding_of}};
+ghost use Rattle.std.specs.Prelude.{◌≡◌, IfOk, IfSome, Some};
+ghost use Rattle.fb_jobs.specs.{Cached.{some_faults}, Finished.{value_of}, Values.{finding_of}};
 
 use crate::keys::inputs::Inputs;
 use crate::keys::key::Key;
@@ -15,6 +15,8 @@ pub struct Derivation {
     key: Arc<Key>,
     texts: Arc<TextReads>,
     value: Arc<Value>,
+    // beside the value, which is seldom in the cache when a job asks this of each of its reads
+    has_faults: Option<bool>,
     inputs: Option<Arc<Inputs>>,
 }
 
@@ -24,6 +26,7 @@ impl Drop for Derivation {
             key: _,
             texts: _,
             value: _,
+            has_faults: _,
             inputs: _,
         } = self;
     }
@@ -38,7 +41,7 @@ impl Model for Derivation {
 
     ghost view = { λ it. record { key = it.key.value; reads = it.texts.value } };
 
-    ghost invariant = { λ it. IsDerivation (record { key = it.key.value; reads = it.texts.value }) it.value.value it.inputs };
+    ghost invariant = { λ it. IsDerivation (record { key = it.key.value; reads = it.texts.value }) it.value.value it.has_faults it.inputs };
 }
 
 impl Derivation {
@@ -48,13 +51,16 @@ impl Derivation {
         value: Arc<Value>,
         inputs: Option<Arc<Inputs>>,
     ) -> Derivation
-        requires { IsDerivation (record { key = key.value; reads = texts.value }) value.value inputs }
+        requires value { finding_of value.value ≡ value_of (record { key = key.value; reads = texts.value }) }
+        requires inputs { IfSome inputs (λ kept. kept.value ≡ record { key = key.value; reads = texts.value }) }
         ensures { result ≡ record { key = key.value; reads = texts.value } }
     {
+        let has_faults = has_faults(&value);
         Derivation {
             key,
             texts,
             value,
+            has_faults,
             inputs,
         }
     }
@@ -74,6 +80,7 @@ impl Derivation {
             key,
             texts,
             value,
+            has_faults: self.has_faults,
             inputs,
         })
     }
@@ -96,8 +103,25 @@ impl Derivation {
 
     /// The value that the reads give from scratch.
     pub fn value(&self) -> &Arc<Value>
-        ensures { finding_of result.now.value ≡ scratch (read_texts self.now.reads) self.now.key }
+        ensures { finding_of result.now.value ≡ value_of self.now }
     {
         &self.value
+    }
+
+    /// Whether there are faults. None for a net or a plan.
+    pub fn has_faults(&self) -> Option<bool>
+        ensures { result ≡ some_faults (Some (value_of self.now)) }
+    {
+        self.has_faults
+    }
+}
+
+/// Whether there are faults. None for a net or a plan.
+fn has_faults(value: &Value) -> Option<bool>
+    ensures { result ≡ some_faults (Some (finding_of value.now)) }
+{
+    match value {
+        Value::Faults(found) => Some(!found.is_empty()),
+        Value::Net(_) | Value::Deploy(_) => None,
     }
 }

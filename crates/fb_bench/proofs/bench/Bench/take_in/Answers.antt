@@ -1,6 +1,6 @@
 -- The value that is kept is that of the present texts, since what was read is current.
-use Rattle.std.proofs.Common.{◌≡◌, sym, ap, subst, refl, ◌∙◌, arith, rules}
-use Rattle.fb_entries.specs.{Jobs.Keys.{scratch}, Jobs.Reads.{PlainJob}, Jobs.Values.{finding_of}}
+use Rattle.std.proofs.Common.{◌≡◌, sym, ap, subst, refl, ◌∙◌, arith}
+use Rattle.fb_entries.specs.{Jobs.Finished.{value_of}, Jobs.Keys.{scratch}, Jobs.Reads.{PlainJob}}
 use Rattle.fb_history.specs.{declared.answers.Delivered.TheVariants.{Accepted}, Machine.{State, ToDeliver, OfDeliver, deliver_answer}}
 use Rattle.fb_history.specs.BenchView.{BenchView, state_of, logged, record_after}
 use Rattle.fb_bench.specs.{Consistent.{Agrees}, Founds.{HasNetsOf}}
@@ -18,11 +18,10 @@ invariant_of-self-2 c =
     let law : scratch s.units now.key ≡ _ = c.current_reads.ensures s.units now c.reads-reads.ensures.right fresh in
     let nets : HasNetsOf s.units now = λ hint is. c.current_nets.ensures s.units now hint c.reads-reads.ensures.right fresh is in
     let rights = founds_right s.units now c.found.result.now c.in_ok-found.found.items nets c.in_ok-found.ensures c.found.ensures in
-    let cloned : c.in_ok-value.value.value ≡ c.value.result.now.value = search rules in
-    let value : finding_of c.in_ok-value.value.value ≡ scratch s.units c.key-key.result = ap finding_of cloned ∙ c.value.ensures ∙ sym law ∙ ap (λ k. scratch s.units k) (sym c.key-key.ensures) in
+    let value : value_of c.in_ok-derivation.derivation ≡ scratch s.units c.key-key.result = ap value_of c.in_ok-derivation.ensures ∙ sym law ∙ ap (λ k. scratch s.units k) (sym c.key-key.ensures) in
     kept_pushed _ _ _ _ bench _ c.args.caller (ToDeliver now) _ c.self.invariant.begins (c.in_ok-share.ensures.ok ∙ ap (λ call. logged c.self.inside.history c.args.caller call (OfDeliver Accepted)) c.in_ok-call.ensures) (delivers_is s now now Accepted refl accepted)
     (subst (λ t. Agrees c.self.inside.library c.self.inside.commits c.keep_all.new.entries t) (sym (delivered_is s now now c.key-key.result Accepted refl c.key-key.ensures accepted))
-    (c.keep_all.ensures _ _ _ (agrees_deliver _ _ c.self.inside.entries c.keep.new.self s c.key-key.result c.in_ok-value.value c.in_ok-derivation.derivation c.self.invariant.agrees value c.keep.ensures.entries c.keep.ensures.ready) rights))
+    (c.keep_all.ensures _ _ _ (agrees_deliver _ _ c.self.inside.entries c.keep.new.self s c.key-key.result c.in_ok-derivation.derivation c.self.invariant.agrees value c.keep.ensures.entries c.keep.ensures.ready) rights))
     c.self.invariant.replayed c.self.invariant.indexed (omega (arith, c.self.invariant.few))
 
 pub returns : goal.returns

@@ -1,5 +1,5 @@
 -- A net that is kept of another subapplication is one more.
-use Rattle.std.proofs.Common.{ℕ, List, Bool, not, ◌&&◌, is_some, Some, refl, sym, ap, ◌∙◌}
+use Rattle.std.proofs.Common.{ℕ, List, Bool, not, ◌&&◌, is_some, Some, sym, ap, ◌∙◌}
 use Rattle.std.specs.{BTreeMap.{is_at}, Prelude.{option_copied, option_map}}
 use Rattle.fb_text.specs.Order.{name_cmp}
 use Rattle.fb_deploy.specs.{Flatten.Tables.{is_subapplication_in}, Library.Texts.{sources_of}, Library.View.{tree_at}}
