@@ -111,6 +111,27 @@ def proof(line: bytes, secret: bytes, client: str) -> bytes:
     return f'{{"proof":"{code.hex()}","challenge":"{client}"}}\n'.encode()
 
 
+class ChainTest(OneConnection):
+    """A chain of structures, each of which has a field of the one before."""
+
+    LENGTH = 1_200
+    # Each structure keeps what it has read of all before it: 16 bytes a name. With their trees these would be 64, and 46 MB in all.
+    MOST = 32_000_000
+
+    def test_a_chain_keeps_16_bytes_for_each_name_that_was_read(self) -> None:
+        types = ("INT", *(f"T{number}" for number in range(self.LENGTH)))
+        texts = [f"TYPE T{number} : STRUCT F : {of}; END_STRUCT END_TYPE" for number, of in enumerate(types[:-1])]
+        changes = [{"put": f"T{number}", "base": 0, "text": text} for number, text in enumerate(texts)]
+        for first in range(0, self.LENGTH, 16):
+            self.assertIn(b'"commit"', self.asked({"op": "commit", "changes": changes[first : first + 16]}))
+        ends = time.monotonic() + 2 * SECONDS
+        while b'"pending":0' not in self.asked({"op": "status"}) and time.monotonic() < ends:
+            time.sleep(0.1)
+        self.assertEqual(b'{"faults":[]}\n', self.asked({"op": "ask", "kind": "faults", "unit": f"T{self.LENGTH - 1}"}))
+        pages = int(Path(f"/proc/{self.host.pid}/statm").read_text().split()[1])
+        self.assertLess(pages * os.sysconf("SC_PAGE_SIZE"), self.MOST)
+
+
 class SecretTest(InFolder):
     def start(self, *words: str, port: int = 0, connections: int = 1) -> tuple[subprocess.Popen[bytes], int]:
         command = [workbench(), "host", "--port", str(port), "--connections", str(connections), *words]

@@ -308,8 +308,7 @@ impl Bench {
         self.library.revision(unit)
     }
 
-    /// What the units of the present texts mention, by which a commit finds what it reaches. Units that are gone may be in it too, without mentions: it
-    /// names such a unit if one asks for what is near it.
+    /// What the units of the present texts mention, by which a commit finds what it reaches.
     pub fn index(&self) -> &Index
         ensures { IsIndexOf (state_of self.now).units result.now }
     {

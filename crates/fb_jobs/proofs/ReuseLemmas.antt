@@ -1,4 +1,4 @@
--- What is read leaves a net as it was.
+-- What is read leaves a net unchanged.
 use Rattle.std.proofs.Common.{◌≡◌, ℕ, ◌<◌, true, false, List, [], ◌∷◌, ◌⊎◌, inl, inr, length, suc, get_or, refl, sym, ap, subst, ◌∙◌, arith, Option, Some, None, is_none, ◌||◌, Bool}
 use Rattle.std.proofs.{lemmas.List.{get_or-map, get_or_default}, lemmas.List.Elements.{AllZip-get_or, length_all_zip}}
 use Rattle.std.specs.{FinMap.{get}, List.{Contains}, List.Sorted.{IsStrictlySortedBy}, Option.{option_and_then, option_map}}
@@ -170,7 +170,7 @@ stays kind.Deploy unit before now (Deploy deploy) faultless made right whole wit
     let at : plan_at (sources_of (read_texts before)) unit ≡ Some (plain_deploy deploy) = plan_found (plan_at (sources_of (read_texts before)) unit) (plain_deploy deploy) (made.value_is ∙ scratch_is (read_texts before) (record { kind = kind.Deploy; unit = unit })) in
     ap plan_finding (sym (plan_stays unit before now faultless (made.right.names ∙ plan_right unit before) (right.names ∙ plan_right unit now) without still (plain_deploy deploy) whole at))
 
--- a value that what is read leaves as it was is that of the reads
+-- a value that what is read leaves unchanged is that of the reads
 pub reusable_value : (key : Key) (before now : List Seen) (value : Value) (faultless : List ℕ → Bool) → IsDerived key before value → IsRight (record { key = key; reads = now }) → is_whole_value value ≡ true → AreWithoutFaults (read_texts now) faultless → AreStillRead key.unit faultless before now → finding_of value ≡ scratch (read_texts now) key
 reusable_value key before now value faultless made right whole without still =
     stays key.kind key.unit before now value faultless made right whole without still ∙ sym (scratch_is (read_texts now) key)

@@ -1,4 +1,4 @@
--- What is read leaves the value as it was, so it is that of the reads.
+-- What is read leaves the value unchanged, so it is that of the reads.
 use Rattle.std.proofs.Common.{◌≡◌, Bool, true, false, not, List, refl, sym, ap, subst, ◌∙◌, IfSome}
 use Rattle.fb_jobs.specs.{declared.keys.key.Key.{Key}, Keys.{scratch}, Cached.{IsCached, is_flagged}, Reuse.{AreStillRead, is_whole_value}}
 use Rattle.fb_jobs.specs.{Reads.{IsRight, PlainJob, Seen, read_texts}, Values.{all_seen}}

@@ -1,4 +1,4 @@
--- What stands at the place was read under the name, and nothing where there is a gap.
+-- What is at the place was read under the name; in a gap there is nothing.
 use Rattle.std.proofs.Common.{◌≡◌, ℕ, List, Some, get_or, sym, ap, subst, ◌∙◌}
 use Rattle.std.specs.Option.{option_map}
 use Rattle.fb_deploy.specs.{Library.Texts.{text_at, text_in}, Library.Place.{IsAt, IsGapFor}}

@@ -1,4 +1,4 @@
--- The closure compares a read's name, and the reads stand in the order of their names.
+-- The closure compares a read's name, and the reads are in the order of their names.
 use Rattle.std.proofs.{Common.{rules, IfOk, IfErr, List, ap, subst, sym, ◌∙◌}, lemmas.Fn.{always_returns_same}}
 use Rattle.std.specs.List.Sorted.{IsStrictlySortedBy}
 use Rattle.fb_text.specs.Order.{name_cmp}

@@ -1,4 +1,4 @@
--- A text stands at its place.
+-- The text is at its place.
 use Rattle.std.proofs.Common.{◌≡◌, ◌<◌, length, get_or, slice_get, Some, sym, ap, subst, ◌∙◌, arith}
 use Rattle.fb_jobs.proofs.TextLemmas.{read_there}
 use Rattle.fb_jobs.proofs.keys.read_list.ReadList.version.Goals as goal
