@@ -6,8 +6,8 @@ use Rattle.fb_locked.specs.History.declared.reading.Showing as made
 use Rattle.std.proofs.Common.{◌≡◌, ◌≤◌, ℕ, List, [], ◌∷◌, ◌++◌, ◌∙◌, Err, Ok, Option, Result, Some, None, ap, append-nil, append_assoc, arith, map, refl, sym, subst}
 use Rattle.fb_wire.specs.Conversations.{Runs}
 use Rattle.fb_locked.specs.{Bench.Calls.{Replied, FullHistory, BehindHistory, Checked, SharedHistory, Exchange, AskedCall, AskedCheckpoint, AskedRead, ServesRead}, History.Machine.{Call, Reply}, History.BenchView.{last_number}, Runs.{IsRun}}
-use Rattle.fb_locked.specs.{Seats.{SeatView, ReceiptView, IsReceiptOf, seat_after}, Reads.{IsReadAt, ReadsAt}, History.Reads.{Showing, showing_in}, History.declared.reading.Identity.{Identity}, History.declared.reading.Reading.{Reading}}
-use Rattle.fb_shared.specs.Seated.{SeatedView}
+use Rattle.fb_locked.specs.{Seats.{SeatView, ReceiptView, IsReceiptOf, seat_after}, Reads.{IsReadAt, Reads, ReadsAt}, History.Reads.{Showing, showing_in}, History.declared.reading.Identity.{Identity}, History.declared.reading.Reading.{Reading}}
+use Rattle.fb_shared.specs.{Seated.{SeatedView}, UnderLock.{IsBehind, UnderLock}}
 use Rattle.fb_serve.specs.{AddedReceipts.{AddsRun}, Sessions.{answered_before, answered_in, call_shown}}
 use Rattle.fb_host.specs.HostSessions.{IsHostRead, IsHostRun, LeadsTo, HostStep, SeesOn, SessionView, session_of}
 
@@ -137,6 +137,9 @@ reads_go_on workbench seat mid after later first second shown again receipts one
     (grown.0, All-from_recursion (IsUpTo later.seen) receipts grown.1)
 
 -- ---- a read of a desk
+
+pub reads_behind : (workbench : Identity) (seat after : SeatView) (reading : Reading) (r : Result (Option made.Showing) AllocError) → UnderLock (λ locked. Reads locked workbench seat reading r after) → r ≡ Ok None → IsBehind seat
+reads_behind workbench seat after reading r under is = (under.0, under.1, (subst (λ r. Reads under.0 workbench seat reading r after) is under.2).0)
 
 -- what the lock says of a seat, as the desk says it
 pub reads_as : (workbench : Identity) (old new : SessionView) (reading : Reading) (r : Result (Option made.Showing) AllocError) → workbench ≡ old.workbench → ReadsAt workbench old.seated.seat reading r new.seated.seat

@@ -3,7 +3,7 @@ use Rattle.std.proofs.Common.{◌≡◌, ◌==◌, ◌&&◌, ◌||◌, ◌≤◌
 use Rattle.std.proofs.{lemmas.Bool.{eqb-true}, lemmas.Bool.Decides.{nat_tests}, lemmas.List.{map-append}, lemmas.List.Folds.{list_any-append}}
 use Rattle.std.specs.{Borrow.{Bor}, List.{list_any}, Map.{keys_of}, Map.Iter.{deref}}
 use Rattle.fb_locked.specs.{Book.{has_called}, Closing.{AgreesWith, IsLeast, receipts_of}}
-use Rattle.fb_locked.specs.{History.BenchView.{BenchView, all_turns, on_page, pages_after, turns_of}, Seats.{SeatView, ReceiptView}}
+use Rattle.fb_locked.specs.{History.BenchView.{BenchView, all_turns, pages_after, turns_of}, Seats.{SeatView, ReceiptView}}
 use Rattle.fb_locked.proofs.EachCaller.{called_all}
 use Rattle.fb_serve.specs.Shown.{ShowsAll}
 use Rattle.fb_host.specs.Short.{is_short}

@@ -1,5 +1,5 @@
 -- What happens to the keys that sessions have taken.
-use Rattle.std.specs.Prelude.{◌++◌, ◌∷◌, [], ◌==◌, ◌||◌, if◌then◌else◌, ℕ, Bool, List, filter, nat_lt, not}
+use Rattle.std.specs.Prelude.{◌++◌, ◌∷◌, [], ◌==◌, ◌||◌, if◌then◌else◌, ℕ, Bool, List, nat_lt, not}
 use Rattle.fb_locked.specs.Jobs.{KeyOrder.{same_key}, declared.keys.key.Key.{Key}}
 use Rattle.fb_host.specs.declared.leases.Lease.{Lease}
 

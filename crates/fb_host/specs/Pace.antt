@@ -1,5 +1,5 @@
 -- Which commits wait for the workers.
-use Rattle.std.specs.Prelude.{◌≡◌, ◌<◌, ◌+◌, ◌==◌, if◌then◌else◌, ℕ, Bool, true, false, List, Option, Some, None, slice_get, slice_set}
+use Rattle.std.specs.Prelude.{◌≡◌, ◌<◌, ◌+◌, ◌==◌, if◌then◌else◌, ℕ, Bool, true, false, List, Option, Some, None, slice_set}
 use Rattle.fb_host.specs.declared.pace.RecentCommits.{RecentCommits}
 
 -- Rests are counted: moments at which all that was pending had been taken. Between two of them a seat makes eight commits at most.

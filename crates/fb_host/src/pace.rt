@@ -1,7 +1,8 @@
 //! The pace of sessions: a seat that commits faster than the workers settle keys waits for them, and a key that a session lets go is the workers' first.
-ghost use Rattle.std.specs.Prelude.{◌≡◌, ◌≢◌, ◌+◌, ◌==◌, ◌↔◌, IfOk, IsTrue, Some, if◌then◌else◌, replicate, slice_get};
+ghost use Rattle.std.specs.Prelude.{◌≡◌, ◌≢◌, ◌+◌, ◌==◌, ◌↔◌, IfOk, IsTrue, Some, if◌then◌else◌, min, replicate, slice_get};
 ghost use Rattle.fb_host.specs.Pace.{IsCounted, MayCommit, no_commits, with_one_more};
 
+use fb_locked::bench::Request;
 use fb_shared::Shared;
 use std::alloc::{AllocError, Global};
 use std::sync::{Mutex, MutexGuard, Wait};
@@ -13,6 +14,9 @@ const LOOK: u64 = 1;
 
 /// For how many milliseconds a call waits at most if the host closes.
 const CLOSING: u64 = 100;
+
+/// For how many milliseconds a `take` waits at most for the workers, who may have long jobs.
+const TAKING: u64 = 1_000;
 
 /// How many commits a seat makes at most between two rests.
 const AHEAD: u64 = 8;
@@ -110,6 +114,21 @@ impl Turn<'_> {
     }
 }
 
+/// For how many milliseconds a call waits at most, of which none may wait for longer than `length`.
+fn longest_wait(length: u64, is_take: bool, is_closing: bool) -> u64
+    ensures { result
+        ≡ min length (if is_closing then 100 else (if is_take then 1000 else length)) }
+{
+    let most = if is_closing {
+        CLOSING
+    } else if is_take {
+        TAKING
+    } else {
+        length
+    };
+    length.min(most)
+}
+
 /// Pauses before the next look. A rest may have come before what waits for it.
 fn look_again<R: Wait + Clock>(rt: &R, shared: &Shared) {
     thread::sleep(rt, Duration::from_millis(LOOK));
@@ -146,30 +165,49 @@ impl Pace {
         })
     }
 
-    /// Waits until this caller may commit, but not for too long, and counts the commit.
-    pub(crate) fn await_commit<R: Wait + Clock>(&self, rt: &R, shared: &Shared, caller: u32) {
+    /// Waits until a caller may make a call, but not for too long. The turn of one that takes a key or gives one back is then its own.
+    pub(crate) fn await_turn<R: Wait + Clock>(
+        &self,
+        rt: &R,
+        shared: &Shared,
+        caller: u32,
+        request: &Request<'_>,
+    ) -> Option<Turn<'_>> {
         let begun = Instant::now(rt).ok();
         for _ in 0..self.length {
-            let may_commit = self.commits.lock(rt).count(caller, shared.rests());
-            if may_commit || self.is_over(rt, shared, begun) {
-                return;
-            }
-            look_again(rt, shared);
-        }
-    }
-
-    /// Waits until a session may take a key, but not for too long.
-    pub(crate) fn await_take<R: Wait + Clock>(&self, rt: &R, shared: &Shared) -> Turn<'_> {
-        let begun = Instant::now(rt).ok();
-        for _ in 0..self.length {
-            let turn = self.turn(rt);
-            if turn.last.may_take(shared.rests()) || self.is_over(rt, shared, begun) {
+            let turn = self.turn_of(rt, request);
+            let may_call = self.may_call(rt, shared, caller, request, &turn);
+            if may_call || self.is_over(rt, shared, request, begun) {
                 return turn;
             }
             drop(turn);
             look_again(rt, shared);
         }
-        self.turn(rt)
+        self.turn_of(rt, request)
+    }
+
+    /// The turn of a call that takes a key or gives one back.
+    fn turn_of<R: Wait>(&self, rt: &R, request: &Request<'_>) -> Option<Turn<'_>> {
+        match request {
+            Request::Take | Request::GiveBack(_) => Some(self.turn(rt)),
+            Request::Commit(_) | Request::Deliver(_) | Request::Ask(_) => None,
+        }
+    }
+
+    /// Whether a caller may make a call with this turn now. A commit that it may make is counted.
+    fn may_call<R: Wait>(
+        &self,
+        rt: &R,
+        shared: &Shared,
+        caller: u32,
+        request: &Request<'_>,
+        turn: &Option<Turn<'_>>,
+    ) -> bool {
+        match (request, turn) {
+            (Request::Commit(_), _) => self.commits.lock(rt).count(caller, shared.rests()),
+            (Request::Take, Some(turn)) => turn.last.may_take(shared.rests()),
+            _ => true,
+        }
     }
 
     /// Waits until no other session takes a key or lets one go.
@@ -179,13 +217,16 @@ impl Pace {
         }
     }
 
-    /// Whether a wait that began then was long enough.
-    fn is_over<R: Clock>(&self, rt: &R, shared: &Shared, begun: Option<Instant>) -> bool {
-        let most = if shared.is_closing() {
-            self.length.min(CLOSING)
-        } else {
-            self.length
-        };
+    /// Whether the wait of a call that began then was long enough.
+    fn is_over<R: Clock>(
+        &self,
+        rt: &R,
+        shared: &Shared,
+        request: &Request<'_>,
+        begun: Option<Instant>,
+    ) -> bool {
+        let is_take = matches!(request, Request::Take);
+        let most = longest_wait(self.length, is_take, shared.is_closing());
         match begun.map(|it| it.elapsed(rt)) {
             Some(Ok(passed)) => Duration::from_millis(most) <= passed,
             _ => true,

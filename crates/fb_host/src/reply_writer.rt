@@ -1,4 +1,5 @@
 //! Replies as they are written to a connection. Each has a time of its own, so that a peer that reads a byte now and then holds no session for long.
+ghost use Rattle.std.specs.{Io.KnownBytes.{Keeps}, Prelude.{◌≡◌, None}};
 ghost use Rattle.fb_host.specs.Replies.{IsReplyWait};
 
 use std::io;
@@ -82,7 +83,10 @@ impl<R: Clock> Write for ReplyWriter<'_, R> {
         stream.write(buf)
     }
 
-    fn flush(&mut self) -> io::Result<()> {
+    fn flush(&mut self) -> io::Result<()>
+        ensures bytes { Keeps None None }
+        ensures ended { self.new.begun ≡ None }
+    {
         self.begun = None;
         Ok(())
     }

@@ -75,8 +75,9 @@ impl<'a, R: Wait> SessionDesk<'a, R> {
 }
 
 impl<R: Wait + Clock> Desk for SessionDesk<'_, R> {
-    ghost use Rattle.std.specs.Prelude.{◌≡◌, Err, true};
-    ghost use Rattle.fb_locked.specs.Bench.Calls.{ServesCheckpoint};
+    ghost use Rattle.std.specs.Prelude.{◌≡◌, Err, IfOk, None, Ok, true};
+    ghost use Rattle.fb_locked.specs.Bench.{Calls.{Fits, Serves, ServesCheckpoint, ServesRead}, Requests.{call_for, reply_in}};
+    ghost use Rattle.fb_shared.specs.UnderLock.{IsBehind};
     ghost use Rattle.fb_host.specs.HostSessions.{IsHostCall, IsHostCheckpoint, IsHostRead};
 
     ghost step = { IsHostCall };
@@ -91,9 +92,14 @@ impl<R: Wait + Clock> Desk for SessionDesk<'_, R> {
         true
     }
 
-    fn perform(&mut self, request: &Request<'_>) -> Result<Answered, DeskError> {
+    fn perform(&mut self, request: &Request<'_>) -> Result<Answered, DeskError>
+        ensures fits { IfOk result (λ answer. Fits (call_for request.now) (reply_in answer)) }
+        ensures step { Serves IsHostCall self.old (call_for request.now) reply_in
+            result self.new }
+        ensures behind { result ≡ Err DeskError.Behind → IsBehind self.old.seated.seat }
+    {
         let (rt, shared, caller) = (self.seated.rt, self.shared, self.seated.seat.caller());
-        let turn = await_turn(rt, shared, self.pace, caller, request);
+        let turn = self.pace.await_turn(rt, shared, caller, request);
         if self.held.reserve(1).is_err() {
             let is_behind = self.shared.is_behind(self.seated.rt, &self.seated.seat);
             return Err(if is_behind {
@@ -130,8 +136,11 @@ impl<R: Wait + Clock> Desk for SessionDesk<'_, R> {
         self.seated.checkpoint(limits)
     }
 
-    #[tactic(auto, using(crate::proofs::SessionLemmas::reads_as))]
-    fn read(&mut self, reading: &Reading, wait: u64) -> Result<Option<Showing>, AllocError> {
+    #[tactic(auto, using(crate::proofs::SessionLemmas::reads_as, crate::proofs::SessionLemmas::reads_behind))]
+    fn read(&mut self, reading: &Reading, wait: u64) -> Result<Option<Showing>, AllocError>
+        ensures step { ServesRead IsHostRead self.old reading.now result self.new }
+        ensures behind { result ≡ Ok None → IsBehind self.old.seated.seat }
+    {
         let rt = self.seated.rt;
         let shared = self.shared;
         let seat = &mut self.seated.seat;
@@ -139,25 +148,6 @@ impl<R: Wait + Clock> Desk for SessionDesk<'_, R> {
             Reading::Events(after) => shared.watch(rt, seat, *after, Duration::from_millis(wait)),
             _ => shared.read(rt, seat, reading),
         }
-    }
-}
-
-/// Waits until a caller may make a call. The turn of one that takes a key or gives one back is then its own.
-fn await_turn<'a, R: Wait + Clock>(
-    rt: &R,
-    shared: &Shared,
-    pace: &'a Pace,
-    caller: u32,
-    request: &Request<'_>,
-) -> Option<Turn<'a>> {
-    match request {
-        Request::Commit(_) => {
-            pace.await_commit(rt, shared, caller);
-            None
-        }
-        Request::Take => Some(pace.await_take(rt, shared)),
-        Request::GiveBack(_) => Some(pace.turn(rt)),
-        Request::Deliver(_) | Request::Ask(_) => None,
     }
 }
 

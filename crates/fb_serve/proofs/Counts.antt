@@ -3,7 +3,7 @@ use Rattle.std.proofs.Common.{◌≡◌, ◌≤◌, ◌==◌, ◌&&◌, ◌||◌
 use Rattle.std.proofs.lemmas.List.Sums.{sum_by-append, sum_by-cons}
 use Rattle.std.proofs.{lemmas.Bool.{eq-eqb, eqb-true}, lemmas.Bool.Decides.{nat_tests}, lemmas.List.Elements.{All-push, All-weaker, recursion_from_All}}
 use Rattle.std.specs.List.{AllByRecursion, list_any}
-use Rattle.fb_wire.specs.History.BenchView.{BenchView, all_turns, turns_of}
+use Rattle.fb_wire.specs.History.BenchView.{BenchView, all_turns}
 use Rattle.fb_shared.specs.{Locked.Book.{is_caller}, Locked.Closing.{AgreesWith, has_seat, receipts_of}, Locked.Runs.{IsRun}}
 use Rattle.fb_shared.specs.Locked.Seats.{ReceiptView, SeatView, seat_after}
 use Rattle.fb_serve.specs.{AddedReceipts.{AddsRun}, Shown.{AreShown, IsNew, IsShown, ShowsAll}}

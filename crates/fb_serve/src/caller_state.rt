@@ -1,6 +1,6 @@
 //! What is kept of a caller: its seat, the receipts of its calls, and the keys that it must give back.
-ghost use Rattle.std.specs.Prelude.{◌≡◌, ◌≤◌, ◌<◌, [], Contains, vec_capacity, vec_len};
-ghost use Rattle.fb_serve.specs.AddedReceipts.{AddsRun};
+ghost use Rattle.std.specs.Prelude.{◌≡◌, ◌≤◌, ◌<◌, [], Contains, filter, vec_capacity, vec_len};
+ghost use Rattle.fb_serve.specs.{AddedReceipts.{AddsRun}, Unsettled.{is_another_key}};
 
 use fb_shared::{Receipt, Seat, Shared};
 use fb_wire::jobs::Key;
@@ -48,6 +48,7 @@ pub fn hold(held: &mut Vec<Held>, it: Held)
 
 /// Removes a key that is settled.
 pub fn forget(held: &mut Vec<Held>, key: &Key)
+    ensures others { held.new.items ≡ filter (is_another_key key.now) held.old.items }
     ensures fewer { vec_len held.new ≤ vec_len held.old }
     ensures room { vec_capacity held.new ≡ vec_capacity held.old }
 {

@@ -1,5 +1,5 @@
 -- What a worker knows of the workbench that was under the lock at its looks.
-use Rattle.std.proofs.Common.{◌≡◌, ◌≢◌, ◌⊎◌, inl, inr, ◌++◌, [], ◌∷◌, ◌≤◌, ◌+◌, ◌*◌, ℕ, List, Option, Some, None, Result, Ok, Err, option_map, refl, sym, subst, ◌∙◌, arith, length, Bool, true, false, if◌then◌else◌}
+use Rattle.std.proofs.Common.{◌≡◌, ◌≢◌, ◌⊎◌, inl, inr, ℕ, List, Option, Some, None, option_map, sym, subst, ◌∙◌, Bool, true, false, if◌then◌else◌}
 use Rattle.fb_locked.specs.declared.locked.SharedRefused.{SharedRefused}
 use Rattle.fb_locked.specs.{declared.look.Look.{Look}, declared.look.WorkEnd.{WorkEnd}, Seats.{LockedView, SeatView, ReceiptView}, Refusals.{refusal_of}}
 use Rattle.fb_locked.specs.Ends.{Looks, EndsAs, end_before_take, end_of}

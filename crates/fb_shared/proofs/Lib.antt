@@ -1,3 +1,4 @@
 pub mod Histories
 pub mod Crossing
+pub mod Refusals
 mod Holds

@@ -1,7 +1,7 @@
 -- What is known of the workbench under the lock at the moment of a call.
 use Rattle.std.specs.Prelude.{◌≡◌, ◌≢◌, None, Option, Some}
 use Rattle.fb_locked.specs.{History.BenchView.{IsOrigin, IsReplay}, Seats.{LockedView, SeatView}, Ends.{end_before_take}}
-use Rattle.fb_locked.specs.{declared.look.Look.{Look}, declared.look.WorkEnd.{WorkEnd}}
+use Rattle.fb_locked.specs.{Book.{SeatFits}, declared.look.Look.{Look}, declared.look.WorkEnd.{WorkEnd}}
 use Rattle.fb_locked.specs.declared.look.Look.TheVariants.{Ended, Nothing, Taken}
 use Rattle.fb_locked.specs.declared.look.WorkEnd.TheVariants.{TurnsOver}
 
@@ -12,6 +12,10 @@ IsReplayed locked = IsOrigin locked.bench.origin × IsReplay locked.bench
 -- this holds of some such workbench, the one that was under the lock then
 abbrev pub UnderLock : (LockedView → Type 0) → Type 0
 UnderLock Holds = (locked : LockedView) × IsReplayed locked × Holds locked
+
+-- the history was not one that the seat has seen
+abbrev pub IsBehind : SeatView → Type 0
+IsBehind seat = UnderLock (λ locked. SeatFits locked seat → ⊥)
 
 -- ---- looks of a worker
 

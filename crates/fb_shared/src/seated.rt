@@ -1,4 +1,7 @@
 //! A shared workbench as the desk of one seat.
+ghost use Rattle.std.specs.Prelude.{◌≡◌};
+ghost use Rattle.fb_shared.specs.Seated.{desk_refusal};
+
 use crate::shared::Shared;
 use fb_locked::bench::{
     Answered, Desk, DeskCheckpointError, DeskError, Limits, Reading, Request, Showing,
@@ -25,10 +28,22 @@ impl<'a, R: Wait> Model for Seated<'a, R> {
     ghost view = { λ it. record { seat = it.seat; receipts = it.receipts.items } };
 }
 
+/// The name that a desk gives a cause.
+fn named(refused: SharedRefused) -> DeskError
+    ensures { result ≡ desk_refusal refused }
+{
+    match refused {
+        SharedRefused::SeatDiffers { .. } | SharedRefused::Behind { .. } => DeskError::Behind,
+        SharedRefused::HistoryFull => DeskError::HistoryFull,
+        SharedRefused::Memory => DeskError::Memory,
+    }
+}
+
 impl<R: Wait> Desk for Seated<'_, R> {
-    ghost use Rattle.std.specs.Prelude.{◌≡◌, Err, false};
-    ghost use Rattle.fb_locked.specs.Bench.Calls.{NoRead, ServesCheckpoint};
-    ghost use Rattle.fb_shared.specs.Seated.{IsCallSeated, IsCheckpointSeated};
+    ghost use Rattle.std.specs.Prelude.{Err, IfOk, false};
+    ghost use Rattle.fb_locked.specs.Bench.{Calls.{Fits, NoRead, Serves, ServesCheckpoint}, Requests.{call_for, reply_in}};
+    ghost use Rattle.fb_locked.specs.Refusals.{refusal_of};
+    ghost use Rattle.fb_shared.specs.{Seated.{IsCallSeated, IsCheckpointSeated, RefusedAtDesk}, UnderLock.{UnderLock}};
 
     ghost step = { IsCallSeated };
 
@@ -47,14 +62,17 @@ impl<R: Wait> Desk for Seated<'_, R> {
         Err(AllocError)
     }
 
-    fn perform(&mut self, request: &Request<'_>) -> Result<Answered, DeskError> {
+    fn perform(&mut self, request: &Request<'_>) -> Result<Answered, DeskError>
+        ensures fits { IfOk result (λ answer. Fits (call_for request.now) (reply_in answer)) }
+        ensures step { Serves IsCallSeated self.old (call_for request.now) reply_in
+            result self.new }
+        ensures refused { UnderLock (λ locked. RefusedAtDesk (refusal_of locked self.old.seat)
+            result) }
+    {
         let shared = self.shared;
         match shared.perform_into(self.rt, &mut self.seat, &mut self.receipts, request) {
             Ok(answer) => Ok(answer),
-            Err(SharedRefused::SeatDiffers { .. }) => Err(DeskError::Behind),
-            Err(SharedRefused::Behind { .. }) => Err(DeskError::Behind),
-            Err(SharedRefused::HistoryFull) => Err(DeskError::HistoryFull),
-            Err(SharedRefused::Memory) => Err(DeskError::Memory),
+            Err(refused) => Err(named(refused)),
         }
     }
 

@@ -13,7 +13,7 @@ use std::alloc::Global;
 use std::io::Print;
 use std::sync::Wait;
 use std::test::Fail;
-use std::time::Clock;
+use std::time::{Clock, Instant};
 
 /// What is tried, what a session says before, what two sessions then say one after another, the replies of the first to it, and the end of those of the
 /// second.
@@ -240,8 +240,27 @@ const NINE_REPLIES: &str = r#"{"commit":1}
 {"commit":9}
 "#;
 
-// What a session is answered whose ninth commit waits for a worker that never rests, while the host closes.
-fn answered_at_close<R: Wait + Clock>(rt: &R, alloc: Global) -> Result<Session, Fail> {
+// A key that is given back and taken again.
+const AGAIN: &str =
+    r#"{"op":"commit","changes":[{"put":"A","base":0,"text":"FUNCTION_BLOCK A END_FUNCTION_BLOCK"}]}
+{"op":"take"}
+{"op":"give_back","kind":"faults","unit":"A"}
+{"op":"take"}
+"#;
+
+const AGAIN_REPLIES: &str = r#"{"commit":1}
+{"job":1,"kind":"faults","unit":"A"}
+{"returned":true}
+{"job":2,"kind":"faults","unit":"A"}
+"#;
+
+// What a session is answered to these lines with a worker that never comes, perhaps while the host closes.
+fn answered_without_workers<R: Wait + Clock>(
+    rt: &R,
+    alloc: Global,
+    is_closing: bool,
+    lines: &str,
+) -> Result<Session, Fail> {
     let limits = Limits::new(8, 100).ok_or("limits")?;
     let (shared, mut seats) = Shared::rolling(
         alloc,
@@ -253,14 +272,26 @@ fn answered_at_close<R: Wait + Clock>(rt: &R, alloc: Global) -> Result<Session, 
     let store = ReceiptStore::new(alloc);
     let pace = Pace::new(alloc, 1, 1, COMMIT_WAIT)?;
     let state = CallerState::new(alloc, seats.pop().ok_or("no seat")?);
-    shared.end_watches(rt);
-    let (_state, session) = say_lines(rt, alloc, &shared, &store, &pace, state, NINE, 0)?;
+    if is_closing {
+        shared.end_watches(rt);
+    }
+    let (_state, session) = say_lines(rt, alloc, &shared, &store, &pace, state, lines, 0)?;
     Ok(session)
 }
 
 #[test]
 fn a_commit_does_not_hold_up_the_close(rt: HostRuntime) -> Result<(), Fail> {
-    let session = answered_at_close(&rt, rt.alloc())?;
+    let session = answered_without_workers(&rt, rt.alloc(), true, NINE)?;
     assert!(rt; is_right(&session, NINE_REPLIES));
+    Ok(())
+}
+
+#[test]
+fn a_take_waits_a_second_for_a_worker(rt: HostRuntime) -> Result<(), Fail> {
+    let begun = Instant::now(&rt)?;
+    let session = answered_without_workers(&rt, rt.alloc(), false, AGAIN)?;
+    let passed = begun.elapsed(&rt)?.as_millis();
+    assert!(rt; is_right(&session, AGAIN_REPLIES));
+    assert!(rt; 990 <= passed && passed < 20_000, "{passed}");
     Ok(())
 }

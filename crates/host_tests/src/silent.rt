@@ -30,7 +30,7 @@ within 10000
 1 asks {"op":"take"} => {"job":0}
 1 leaves
 
-== The time of the first line is over once it has come, and a session may be silent for longer / connections 1 / first-line 3000 / calls 2, 2
+== The times of the first line and of a reply are over once these have come, and a session may be silent for longer / connections 1 / first-line 3000 / reply 3000 / calls 2, 2
 0 asks {"op":"take"} => {"job":0}
 wait 3500
 0 asks {"op":"take"} => {"job":0}

@@ -58,7 +58,7 @@ fn stop_at_rest<R: Wait + Clock>(rt: &R, shared: &Shared, number: u64) -> bool {
     have_come
 }
 
-// A call of any kind that leaves nothing to take counts; one that leaves a key does not.
+// A call of any kind that leaves nothing to take counts, and a look that finds nothing; those that leave or find a key do not.
 #[test]
 fn rests_by_calls(rt: HostRuntime) -> Result<(), Fail> {
     let (shared, mut first, mut second) = committed(&rt, rt.alloc(), 1000, &["A", "B"])?;
@@ -67,10 +67,12 @@ fn rests_by_calls(rt: HostRuntime) -> Result<(), Fail> {
     shared.take(&rt, &mut second)?;
     assert_eq!(rt; shared.rests(), 1);
     shared.give_back(&rt, &mut first, faults_of("A")?)?;
+    shared.look_for_rest(&rt);
     assert_eq!(rt; shared.rests(), 1);
     shared.take(&rt, &mut second)?;
     shared.ask(&rt, &mut first, faults_of("A")?)?;
-    assert_eq!(rt; shared.rests(), 3);
+    shared.look_for_rest(&rt);
+    assert_eq!(rt; shared.rests(), 4);
     Ok(())
 }
 

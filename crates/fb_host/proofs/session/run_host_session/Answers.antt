@@ -1,4 +1,4 @@
-use Rattle.std.proofs.Common.{ap, ◌∙◌, sym}
+use Rattle.std.proofs.Common.{ap, ◌∙◌}
 use Rattle.fb_shared.specs.Seated.{SeatedView}
 use Rattle.fb_host.specs.HostSessions.{SessionView}
 use Rattle.fb_host.proofs.SessionLemmas.{desk_runs, desk_shown}
