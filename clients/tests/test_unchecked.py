@@ -46,6 +46,20 @@ class JudgeTest(unittest.TestCase):
         self.assertGreater(min(counts[code] for code in EXACT), 5, counts)
 
 
+    def test_fields_behind_a_type_that_can_not_be_used(self) -> None:
+        """Behind a plug or a structure that is broken, absent or of another kind no name is judged."""
+        head = "FUNCTION_BLOCK A SOCKETS F : T; END_SOCKETS VAR V : INT; W : S; END_VAR ALGORITHM Q IN ST"
+        texts = {"A": f"{head} V := F.X.IN; V := W.X.IN; END_ALGORITHM END_FUNCTION_BLOCK", "B": "TYPE B : STRUCT END_STRUCT END_TYPE"}
+        adapter, structure = "ADAPTER T VAR_INPUT X : B; END_VAR END_ADAPTER", "TYPE S : STRUCT X : B; END_STRUCT END_TYPE"
+        with Session.script(workbench()) as session:
+            for more, count in (
+                ({"T": adapter, "S": structure}, 2), ({"T": adapter.replace("ADAPTER", "FUNCTION_BLOCK")}, 0), ({"T": adapter[:-11]}, 0), ({"S": structure[:-8]}, 0), ({}, 0),
+            ):
+                faults = faults_of(session, texts | more)
+                found = [it for it in Judge(texts["A"], Texts.of(texts | more), broken_units(faults).__contains__).faults() if it.code == "MEMBER_UNKNOWN"]
+                self.assertEqual((len(found), set(found)), (count, {it for it in faults["A"] if it.code == "MEMBER_UNKNOWN"}), more)
+
+
 class NotesTest(unittest.TestCase):
     def test_notes_are_faults_of_the_whole_text(self) -> None:
         """Of texts without one of their symbols or reserved words."""

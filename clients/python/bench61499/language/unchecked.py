@@ -11,7 +11,7 @@ from bench61499.language.declarations import (
 )
 from bench61499.language.grammar import Stop, stops
 from bench61499.language.surroundings import Surroundings, is_output
-from bench61499.language.texts import Texts
+from bench61499.language.texts import Texts, owner
 from bench61499.language.tokens import Token
 
 _PORTS = {EVENT: EVENT_SECTIONS, VARIABLE: DATA_SECTIONS, INSTANCE: ADAPTER_SECTIONS}
@@ -130,8 +130,12 @@ class Judge:
         return None if resource is None or is_known else "NO_SUCH_RESOURCE"
 
     def _of_field(self, use: Use) -> str | None:
-        of = self._usable(self._texts.owner(use.walk) if use.walk else use.key.unit, "TYPE")
+        of = self._usable(owner(use.walk, self._on_the_way) if use.walk else use.key.unit, "TYPE")
         return "MEMBER_UNKNOWN" if of and Key(of.name, FIELD, "", use.key.name) not in of.first else None
+
+    def _on_the_way(self, name: str) -> Unit | None:
+        """A unit that a way leads through: behind one that is broken or of another kind no name is judged."""
+        return self._usable(name, "ADAPTER") or self._usable(name, "TYPE")
 
     def _of_name(self, use: Use, at: int, section: str) -> str | None:
         """Of a name behind WITH, of a parameter, and of events and variables of charts and algorithms."""
