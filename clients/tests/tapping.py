@@ -3,10 +3,11 @@ from __future__ import annotations
 
 import asyncio
 import json
+import socket
 import threading
 from collections import Counter, deque
-from collections.abc import Callable, Coroutine
-from contextlib import suppress
+from collections.abc import Callable, Coroutine, Iterator, Mapping
+from contextlib import contextmanager, suppress
 from typing import Any, Self
 
 from support import free_port
@@ -20,6 +21,30 @@ BEFORE_CALLS = {"BadRequest", "BadName", "TextTooLong", "NoSuchJob", "Behind", "
 """Refusals of requests that are no recorded calls."""
 NO_REVISION = 2**64 - 1
 """A commit with this base is refused whatever is there: it asks for a revision."""
+
+
+@contextmanager
+def lying(host: int, lies: Mapping[bytes, bytes]) -> Iterator[int]:
+    """A server that answers what a host without a secret answers to it, but for some words; gives its port."""
+
+    def serve(client: socket.socket) -> None:
+        with client, socket.create_connection(("127.0.0.1", host)) as true, suppress(OSError):
+            requests, replies = client.makefile("rb"), true.makefile("rb")
+            for line in requests:
+                true.sendall(line)
+                reply = replies.readline()
+                for words, lie in lies.items():
+                    reply = reply.replace(words, lie)
+                client.sendall(reply)
+
+    def accept() -> None:
+        with suppress(OSError):
+            while True:
+                threading.Thread(target=serve, args=(listener.accept()[0],), daemon=True).start()
+
+    with socket.create_server(("127.0.0.1", 0)) as listener:
+        threading.Thread(target=accept, daemon=True).start()
+        yield listener.getsockname()[1]
 
 
 class Tap:

@@ -6,6 +6,7 @@ import unittest
 
 from exchanging import ExchangeTest
 from support import hosting, run, serving, workbench
+from tapping import lying
 
 from bench61499 import Put, Session
 from bench61499.cli.looking import ONLY_ASKED
@@ -215,6 +216,15 @@ class BootTest(ExchangeTest):
             self.assertFalse((self.folder / "boot").exists())
             other.commit([Put("CELL", other.text("CELL").revision, given)])
             self.assertEqual(boot(), (0, ""))
+
+    def test_a_server_with_the_same_texts_and_another_plan(self) -> None:
+        """It is no workbench: these files run machines."""
+        self.write("lib/Cell.fb", system("APPLICATION App FBS X : Maker(N := 5); END_FBS END_APPLICATION", "App ON D1.R1;"))
+        with hosting("--open") as host, lying(host, {b"WRITE APP.X.N 5": b"WRITE APP.X.N 6"}) as port:
+            for at, status in ((host, 0), (port, 2)):
+                self.assertEqual(run("check", "lib", "--connect", f":{host}", "--replace", folder=self.folder).returncode, 0)
+                ran = run("exchange", "boot", "cell", "--files", "lib", "--to", f"boot{status}", "--connect", f":{at}", folder=self.folder)
+                self.assertEqual((ran.returncode, (self.folder / f"boot{status}").exists()), (status, not status), ran.stderr)
 
     def test_names_of_files(self) -> None:
         text = MAKER.replace("Maker", "Gr__e_A8ACB5EB").replace("Go;", "Go_1_312D9A67;")

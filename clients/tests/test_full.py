@@ -138,6 +138,13 @@ class ReaderTest(unittest.TestCase):
         self.assertEqual([it.code for it in doubtful(text, unit, texts, {"SENSOR", "TIMER"}.__contains__)], ["NO_SUCH_VARIABLE"])
         self.assertEqual(doubtful(text, unit, texts, {"B"}.__contains__), [])
 
+    def test_a_broken_type_on_the_way_says_nothing(self) -> None:
+        text = "FUNCTION_BLOCK B SOCKETS F : T; END_SOCKETS VAR V : INT; W : S; END_VAR ALGORITHM Q IN ST_FULL V := F.X.N + W.X.N; END_ALGORITHM END_FUNCTION_BLOCK"
+        types = {"T": "ADAPTER T VAR_INPUT X : R; END_VAR END_ADAPTER", "S": "TYPE S : STRUCT X : R; END_STRUCT END_TYPE", "R": "TYPE R : STRUCT M : INT; END_STRUCT END_TYPE"}
+        texts = Texts.of({"B": text, **types})
+        for broken, count in (("", 2), ("T", 1), ("S", 1), ("R", 0)):
+            self.assertEqual(len(doubtful(text, texts.unit("B"), texts, broken.__eq__)), count, broken)
+
     def test_a_unit_of_which_no_text_is_known(self) -> None:
         """As in a workbench of a team."""
         text = BLOCK % "VAR_TEMP r : RECIPE; END_VAR r.X := 1; N := RED;"

@@ -21,11 +21,10 @@ Texts = dict[str, str]
 
 
 class Asked:
-    """A workbench that works while it is asked. `texts` are those that are known, by unit; `is_trusted` tells whether they are those of the workbench."""
+    """A workbench that works while it is asked. `texts` are those that are known, by unit."""
 
-    def __init__(self, session: Session, texts: Texts, show: Callable[[int], None], is_trusted: bool):
-        self._session, self._show = session, show
-        self.texts, self.is_trusted = texts, is_trusted
+    def __init__(self, session: Session, texts: Texts, show: Callable[[int], None]):
+        self._session, self._show, self.texts = session, show, texts
 
     def values(self, keys: Iterable[Key]) -> dict[Key, Any]:
         """The values of those of these keys that are there."""
@@ -55,7 +54,7 @@ class Compared(Asked):
     """A host, which gives its texts back and works by itself. If files are named they are compared with its texts."""
 
     def __init__(self, session: Session, snapshot: Snapshot, show: Callable[[int], None], unit: str, files: list[Unit], common: Texts):
-        super().__init__(session, {}, show, is_trusted=True)
+        super().__init__(session, {}, show)
         self._snapshot, self._unit, self._files, self._common = snapshot, unit, files, common
 
     def values(self, keys: Iterable[Key]) -> dict[Key, Any]:
@@ -98,9 +97,8 @@ def asking(options: argparse.Namespace, puts: bool) -> Iterator[Asked]:
                 replace(session, snapshot, units, False, progress)
             yield Compared(session, snapshot, show, options.unit, units, last_common(options.files or [], snapshot.workbench))
             return
-        is_own = not options.connect
-        if puts or is_own:
+        if puts or not options.connect:
             commit_units(session, units, lambda put: progress.show(f"putting units: {put:,} of {len(units):,}"))
         elif units:
             tell(ONLY_ASKED)
-        yield Asked(session, texts, show, is_trusted=puts or is_own)
+        yield Asked(session, texts, show)

@@ -5,8 +5,8 @@ import argparse
 from collections.abc import Callable
 from functools import partial
 
-from bench61499 import Deploy, WorkbenchError
-from bench61499.cli.asking import asking
+from bench61499 import Deploy, Net, WorkbenchError
+from bench61499.cli.asking import Asked, asking
 from bench61499.cli.command import add_patience, add_workbench, program, read_path, tell
 from bench61499.cli.plan import NoPlan, deploy_of, plan_in
 from bench61499.cli.version import add_version
@@ -141,19 +141,23 @@ def boot_of(options: argparse.Namespace) -> Boot:
     spellings = Spellings(system, types, options.plain_types) if system and system.kind == "SYSTEM" else None
     with asking(options, False) as asked:
         starts = [find_start(kind, end, spellings) for kind, end in dict.fromkeys(options.starts) if spellings]
-        subapplications = {it.type for it in starts if types[it.type].kind == "SUBAPPLICATION"}  # Where these starts lead, their networks tell.
-        nets = {unit: net for (_, unit), net in asked.values([("net", unit) for unit in subapplications]).items()}
-        deploy = deploy_of(asked, options.unit)
-        is_trusted = asked.is_trusted
-    if not spellings or not is_trusted and deploy != plan_of_files(options):  # The file's text has a SYNTAX fault, or is another one.
+        subapplications = sorted({it.type for it in starts if types[it.type].kind == "SUBAPPLICATION"})  # Where these starts lead, their networks tell.
+        nets, deploy = values_for(asked, options.unit, subapplications)
+    if not spellings or options.connect and (nets, deploy) != values_of_files(options, subapplications):  # The file's text has a SYNTAX fault, or is another one.
         raise another_text(options.unit)
     return Boot(plan_in(asked, options.unit, deploy), spellings, starts, nets, options.applications)
 
 
-def plan_of_files(options: argparse.Namespace) -> Deploy:
-    """What a workbench of its own knows of the plan."""
+def values_for(asked: Asked, unit: str, subapplications: list[str]) -> tuple[dict[str, Net], Deploy]:
+    """The networks of subapplications, and what is known of the plan of a system."""
+    nets = {its: net for (_, its), net in asked.values([("net", its) for its in subapplications]).items()}
+    return nets, deploy_of(asked, unit)
+
+
+def values_of_files(options: argparse.Namespace, subapplications: list[str]) -> tuple[dict[str, Net], Deploy]:
+    """The same of a workbench of its own. A server that is none has any text, and may have another plan."""
     with asking(argparse.Namespace(unit=options.unit, files=options.files, connect=None, program=None), False) as asked:
-        return deploy_of(asked, options.unit)
+        return values_for(asked, options.unit, subapplications)
 
 
 def complain(words: str) -> None:

@@ -18,7 +18,7 @@ from bench61499.language.full_names import Meaning, Scope, scopes
 from bench61499.language.imported import Imported, imported, is_odd
 from bench61499.language.missing_types import CODE as NO_SUCH_TYPE
 from bench61499.language.missing_types import near_type
-from bench61499.language.texts import NEAR, Texts
+from bench61499.language.texts import NEAR, Texts, owner
 from bench61499.language.tokens import Token
 from bench61499.language.wording import Names, asked
 
@@ -96,9 +96,12 @@ class _Judge:
 
     def _owner(self, way: Walk | None) -> Unit | None:
         """The unit that a way leads to, if it is known and not broken."""
-        name = self._texts.owner(way) if way else ""
-        its = self._texts.unit(name) if name else None
-        return its if its and not self._is_broken(name) and its.kind in ("TYPE", "ADAPTER", "FUNCTION_BLOCK") else None
+        its = self._read(owner(way, self._read)) if way else None
+        return its if its and its.kind in ("TYPE", "ADAPTER", "FUNCTION_BLOCK") else None
+
+    def _read(self, name: str) -> Unit | None:
+        """A unit that is known and not broken; nothing is known of what a broken one leads to."""
+        return None if self._is_broken(name) else self._texts.unit(name)
 
     def _is_elsewhere(self, name: str) -> bool:
         """Whether something that has no text here may have a name."""
