@@ -45,9 +45,8 @@ class JudgeTest(unittest.TestCase):
                     counts.update(it.code for it in found)
         self.assertGreater(min(counts[code] for code in EXACT), 5, counts)
 
-
-    def test_fields_behind_a_type_that_can_not_be_used(self) -> None:
-        """Behind a plug or a structure that is broken, absent or of another kind no name is judged."""
+    def test_fields_after_a_type_that_can_not_be_used(self) -> None:
+        """After a plug or a structure that is broken, absent or of another kind no name is checked."""
         head = "FUNCTION_BLOCK A SOCKETS F : T; END_SOCKETS VAR V : INT; W : S; END_VAR ALGORITHM Q IN ST"
         texts = {"A": f"{head} V := F.X.IN; V := W.X.IN; END_ALGORITHM END_FUNCTION_BLOCK", "B": "TYPE B : STRUCT END_STRUCT END_TYPE"}
         adapter, structure = "ADAPTER T VAR_INPUT X : B; END_VAR END_ADAPTER", "TYPE S : STRUCT X : B; END_STRUCT END_TYPE"

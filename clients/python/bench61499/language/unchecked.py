@@ -134,7 +134,7 @@ class Judge:
         return "MEMBER_UNKNOWN" if of and Key(of.name, FIELD, "", use.key.name) not in of.first else None
 
     def _on_the_way(self, name: str) -> Unit | None:
-        """A unit that a way leads through: behind one that is broken or of another kind no name is judged."""
+        """A unit that a way leads through: after one that is broken or of another kind no name is checked."""
         return self._usable(name, "ADAPTER") or self._usable(name, "TYPE")
 
     def _of_name(self, use: Use, at: int, section: str) -> str | None:
