@@ -13,9 +13,10 @@ from pathlib import Path
 from typing import Any
 from unittest.mock import patch
 
-from support import CLIENTS, GREETING, answering, hosting, workbench
+from support import CLIENTS, GREETING, answering, hosting, run, workbench
+from tapping import lying
 
-from bench61499 import BadReply, Change, ConnectionEnded, NoAnswer, NoResult, Session, StaleBase
+from bench61499 import BadReply, Change, ConnectionEnded, NoAnswer, NoResult, Put, Session, StaleBase
 from bench61499.language.units import Misuse, Unit, commit_units
 from bench61499.session import REPLY_LIMIT
 
@@ -80,6 +81,30 @@ class ServerTest(unittest.TestCase):
         for ask, reply in asked:
             with answering(GREETING, f"{reply}\n".encode()) as port, Session.connect("127.0.0.1", port) as session:
                 self.assertRaises(BadReply, ask, session)
+
+    def test_numbers_that_no_workbench_comes_to(self) -> None:
+        """They are kept, and point into texts."""
+        asked: list[tuple[Callable[[Session], object], str]] = [
+            (lambda it: it.units(), '{"at":1,"units":[["A",%s]]}'),
+            (lambda it: it.text("A"), '{"at":1,"base":%s,"text":""}'),
+            (lambda it: it.commit([]), '{"commit":%s}'),
+            (lambda it: it.commit([]), '{"refused":"StaleBase","unit":"A","current":%s}'),
+            (lambda it: it.peek("faults", "A"), '{"faults":[["SYNTAX",%s,7]]}'),
+            (lambda it: it.watch(0), '{"at":1,"events":[["commit",%s,1,["A"],[]]]}'),
+        ]
+        for ask, reply in asked:
+            for number in ("9223372036854775808", "-1", "1.5", '"1"'):
+                with answering(GREETING, f"{reply % number}\n".encode()) as port, Session.connect("127.0.0.1", port) as session:
+                    self.assertRaises(BadReply, ask, session)
+        with answering(GREETING, b'{"at":2,"events":[]}\n') as port, Session.connect("127.0.0.1", port) as session:
+            self.assertRaises(BadReply, session.watch, 3)
+
+    def test_faults_that_are_not_in_a_text(self) -> None:
+        with hosting("--open") as host, lying(host, {b'["SYNTAX",0,1]': b'["SYNTAX",0,9]'}) as port:
+            with Session.connect("127.0.0.1", host) as session:
+                session.commit([Put("A", 0, "X")])
+            ran = run("check", "--connect", f":{port}")
+            self.assertEqual((ran.returncode, ran.stderr), (2, "check: the workbench sent a reply that makes no sense: faults of A that are not in its text\n"))
 
     def test_a_list_of_units_that_goes_round_ends(self) -> None:
         page = b'{"at":1,"units":[["A",1]]}\n'

@@ -218,8 +218,22 @@ class FileTest(InFolder):
             self.assertRaisesRegex(UnfitSecret, f"^other users of this machine can read or write the secret in {file}; chmod 600 keeps it from them$", secret_at, 6149)
         self.put(6149, mode=0o640)
         self.assertEqual(secret_at(6149), SECRET)
-        with patch("os.geteuid", return_value=os.geteuid() + 1):
-            self.assertRaisesRegex(UnfitSecret, "belongs to another user$", secret_at, 6149)
+        self.assertRaisesRegex(UnfitSecret, "belongs to another user$", read_secret, file, os.geteuid() + 1)
+
+    def test_a_folder_of_which_others_could_have_taken_it_away(self) -> None:
+        """Then a program of theirs at the port would be taken for a host without a secret."""
+        folder = self.put(6149).parent
+        for number in (6149, 6150):
+            with patch("os.geteuid", return_value=os.geteuid() + 1):
+                self.assertRaisesRegex(UnfitSecret, f"^the folder of secrets {folder} belongs to another user, or others can write it$", secret_at, number)
+            folder.chmod(0o777)
+            self.assertRaisesRegex(UnfitSecret, "or others can write it$", secret_at, number)
+            folder.chmod(0o770)
+        self.assertEqual((secret_at(6149), secret_at(6150)), (SECRET, None))
+
+    def test_what_is_no_file_is_not_waited_for(self) -> None:
+        os.mkfifo(self.put(6149).with_name("1.secret"), 0o600)
+        self.assertRaisesRegex(UnfitSecret, "is in no file, but in a pipe or a device$", secret_at, 1)
 
     def test_first_lines_that_are_no_secret(self) -> None:
         for content, wrong in (("", "is empty"), ("\nmore", "is empty"), ("s" * 15, "has fewer than 16 bytes"), ("s" * 4_097, "has more than 4096 bytes")):

@@ -62,21 +62,29 @@ def secret_file(port: int) -> Path | None:
 
 
 def secret_at(port: int) -> str | None:
-    """The secret that a host of this user has made for a port of this machine; None if there is none. Raises `UnfitSecret`."""
+    """The secret that a host of this user has made for a port of this machine; None if there is none. Raises `UnfitSecret`, also if others could have taken it away."""
     file = secret_file(port)
-    return read_secret(file, os.geteuid()) if file and os.path.exists(file) else None
+    if not file or not file.parent.is_dir():
+        return None
+    folder = file.parent.stat()
+    if folder.st_uid != os.geteuid() or folder.st_mode & stat.S_IWOTH:
+        raise UnfitSecret(f"the folder of secrets {file.parent} belongs to another user, or others can write it")
+    return read_secret(file, os.geteuid()) if os.path.lexists(file) else None
 
 
 def read_secret(file: str | os.PathLike[str], owner: int | None = None) -> str:
     """The first line of a file, which may have to belong to a user. Raises `UnfitSecret` if it is no secret, or if others than the owner and the group of the file can read or write it."""
+    waits = os.O_NONBLOCK if owner is not None else 0  # A file that was named may be a pipe.
     try:
-        with open(file, encoding="utf-8", newline="") as lines:
+        with open(os.open(file, os.O_RDONLY | os.O_CLOEXEC | waits), encoding="utf-8", newline="") as lines:
             status = os.fstat(lines.fileno())
             secret = lines.readline(LONGEST_SECRET + 1).removesuffix("\n")
     except (OSError, UnicodeDecodeError) as error:
         raise UnfitSecret(f"the secret can't be read from {file}: {getattr(error, 'strerror', None) or 'it is not UTF-8'}") from error
     if owner is not None and status.st_uid != owner:
         raise UnfitSecret(f"the secret in {file} belongs to another user")
+    if owner is not None and not stat.S_ISREG(status.st_mode):
+        raise UnfitSecret(f"the secret in {file} is in no file, but in a pipe or a device")
     if stat.S_ISREG(status.st_mode) and status.st_mode & stat.S_IRWXO:
         raise UnfitSecret(f"other users of this machine can read or write the secret in {file}; chmod 600 keeps it from them")
     if wrong := _wrong_with(secret):

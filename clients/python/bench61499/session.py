@@ -45,6 +45,7 @@ Value = TypeVar("Value")
 _PATH = re.compile(r"\w+(\.\w+)*", re.ASCII)
 # No revision is as high: a change written against it is always refused.
 _NO_REVISION = 2**64 - 1
+_HIGHEST = 2**63 - 1
 _TURNS = 100
 _THERE: dict[str, Any] = {}
 _MOST_REFUSALS = 1_000
@@ -138,7 +139,7 @@ class StaleBase(Refused):
 
     def __init__(self, reply: dict[str, Any]):
         self.unit = str(reply["unit"])
-        self.current = int(reply["current"])
+        self.current = _number(reply["current"])
         there = f"is at revision {self.current} now" if self.current else "is not there"
         super().__init__(reply, f"{self.unit} {there}: the change was written against another revision")
 
@@ -416,22 +417,29 @@ class Watched:
 
 def _read_status(reply: dict[str, Any]) -> Status:
     its = reply["status"]
-    return Status(str(its["workbench"]), **{it: int(its[it]) for it in ("session", "calls", "commits", "units", "keys", "pending")})
+    return Status(str(its["workbench"]), **{it: _number(its[it]) for it in ("session", "calls", "commits", "units", "keys", "pending")})
 
 
 def _read_revisions(reply: dict[str, Any]) -> Revisions:
-    return Revisions(int(reply["at"]), tuple(Revision(_named(unit), int(number)) for unit, number in reply["units"]))
+    return Revisions(_number(reply["at"]), tuple(Revision(_named(unit), _number(number)) for unit, number in reply["units"]))
 
 
-def _read_watched(reply: dict[str, Any]) -> Watched:
+def _watch_reader(after: int) -> Callable[[dict[str, Any]], Watched]:
+    return lambda reply: _read_watched(reply, after)
+
+
+def _read_watched(reply: dict[str, Any], after: int) -> Watched:
     missed = bool(reply.get("missed"))
-    return Watched(int(reply["at"]), () if missed else tuple(map(_read_event, reply["events"])), missed)
+    watched = Watched(_number(reply["at"]), () if missed else tuple(map(_read_event, reply["events"])), missed)
+    if not missed and watched.at < after:  # A watch from there would never end.
+        raise ValueError(watched.at)
+    return watched
 
 
 def _read_event(event: list[Any]) -> Event:
     match event:
         case ["commit", number, caller, put, removed]:
-            return Commit(int(number), int(caller), tuple(map(_named, put)), tuple(map(_named, removed)))
+            return Commit(_number(number), _number(caller), tuple(map(_named, put)), tuple(map(_named, removed)))
         case ["value", kind, unit] if kind in _READERS:
             return Result(kind, _named(unit))
     raise ValueError(event)
@@ -444,8 +452,15 @@ def _named(words: str) -> Any:
     return words
 
 
+def _number(value: Any) -> int:
+    """A number of a call, a commit or a byte. Raises `ValueError` for what no workbench comes to: who keeps numbers has room for these."""
+    if type(value) is not int or not 0 <= value <= _HIGHEST:
+        raise ValueError(value)
+    return value
+
+
 def _read_faults(reply: dict[str, Any]) -> tuple[Fault, ...]:
-    return tuple(Fault(_named(code), int(start), int(end)) for code, start, end in reply["faults"])
+    return tuple(Fault(_named(code), _number(start), _number(end)) for code, start, end in reply["faults"])
 
 
 def _read_links(links: list[Any]) -> tuple[Link, ...]:
@@ -509,7 +524,7 @@ def _present(read: Callable[[dict[str, Any]], Value]) -> Callable[[dict[str, Any
 
 
 def _text_reader(unit: str) -> Callable[[dict[str, Any]], Text]:
-    return lambda reply: Text(unit.upper(), int(reply["base"]), str(reply["text"]), int(reply["at"]))
+    return lambda reply: Text(unit.upper(), _number(reply["base"]), str(reply["text"]), _number(reply["at"]))
 
 
 @dataclass(frozen=True)
@@ -868,7 +883,7 @@ class Session:
         """
         changes = list(changes)
         request = {"op": "commit", "changes": [change.request() for change in changes]}
-        number = self._exchange(request, lambda reply: int(reply["commit"]))
+        number = self._exchange(request, lambda reply: _number(reply["commit"]))
         for change in changes:
             self.revisions.pop(change.unit.upper(), None)
             if isinstance(change, Put):
@@ -1013,7 +1028,7 @@ class Session:
         """What has happened after the recorded call of this number, some 200 calls at most; without an event it waits for one up to so many seconds, at most `LONGEST_WATCH`."""
         request = {"op": "watch", "after": after, "wait": round(1_000 * wait)}
         self._send(request)
-        return self._reply(_read_watched, request, longer=wait)
+        return self._reply(_watch_reader(after), request, longer=wait)
 
     def _exchange_all(
         self, requests: list[tuple[dict[str, Any], Callable[[dict[str, Any]], Value]]], absent: type[Refused], decode: Callable[[bytes], Any] = _decode

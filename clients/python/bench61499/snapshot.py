@@ -10,7 +10,7 @@ from __future__ import annotations
 from collections.abc import Callable, Iterable
 from typing import Any
 
-from bench61499.session import Commit, Event, Key, Result, Session, Text, Waits, Watched
+from bench61499.session import BadReply, Commit, Event, Key, Result, Session, Text, Waits, Watched
 
 LOOK = 5.0
 """Seconds that it waits at once for a value that is being computed."""
@@ -45,9 +45,16 @@ class Snapshot:
             news = self._news(min(LOOK, self._session.patience) if pending else 0)
             if not pending and not news.events and not news.missed:
                 self._at = news.at
+                self._check(known)
                 return known
             waits.go_on(pending, len(known) - len(pending))
             unsure = wanted if self._follow(news) else _again(pending, wanted, news)
+
+    def _check(self, values: dict[Key, Any]) -> None:
+        """Raises `BadReply` if a fault is not in the text of its unit: what answers is no workbench."""
+        for (kind, unit), faults in values.items():
+            if kind == "faults" and faults and (unit not in self.texts or max(it.end for it in faults) > len(self.texts[unit].text.encode(errors="replace"))):
+                raise BadReply(f"faults of {unit} that are not in its text".encode())
 
     def _list(self) -> None:
         listed = self._session.units()
