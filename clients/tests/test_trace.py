@@ -190,6 +190,10 @@ LINE.SECOND.BELT.LOAD of FEEDER on SOUTH.MOTION is fed by
         self.assertEqual(self.trace("PLANT", "LINE.PANEL.TEXT").stdout, "LINE.PANEL.TEXT of LAMP on SOUTH.SCREEN is fed by nothing; its parameter is 'line 1'\n")
         self.assertIn("  1 START, an own port\n      event START -> BELT.START\n", self.trace("STATION", "BELT.START").stdout)
 
+    def test_a_constant_that_a_terminal_would_obey(self) -> None:
+        self.edit("PLANT.fb", "'line 1'", "'\033[2J\x9b\u202e'")
+        self.assertEqual(self.trace("PLANT", "LINE.PANEL.TEXT").stdout, "LINE.PANEL.TEXT of LAMP on SOUTH.SCREEN is fed by nothing; its parameter is '\ufffd[2J\ufffd\ufffd'\n")
+
     def test_json(self) -> None:
         found = json.loads(self.trace("PLANT", "LINE.PANEL.SHOW", "--json", "--steps", 1).stdout)
         link = {"sort": "event", "source": "LINE.SECOND.LIFT.LIFTED", "destination": "LINE.PANEL.SHOW", "cut": True, "border": False}

@@ -12,6 +12,7 @@ from bench61499.cli.command import fail, program, read_with_units, tell
 from bench61499.cli.draw import NoPicture, why_no_key, why_no_net
 from bench61499.cli.version import add_version
 from bench61499.language.as_declared import AsDeclared
+from bench61499.language.names import shown
 from bench61499.language.texts import Texts
 from bench61499.language.units import Misuse
 from bench61499.language.wording import counted
@@ -29,7 +30,7 @@ def main() -> int:
             end = tracing.end(options.end)
         ways = ways_of(tracing, end, options.steps)
         for line in [as_json(options.unit, tracing, end, ways)] if options.json else lines(tracing, end, ways, names):
-            print(line)
+            print(line if options.json else shown(line))
     except (NoPicture, NoSuchEnd) as error:
         tell(f"trace: {error}")
         return 1
