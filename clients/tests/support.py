@@ -68,7 +68,10 @@ def _running(*more: str) -> Iterator[int]:
             line = server.stdout.readline()
             if not line.startswith("listening on "):
                 raise AssertionError("the workbench can't serve")
-            yield int(line.rpartition(":")[2])
+            port = int(line.rpartition(":")[2])
+            if more[0] == "serve":  # A host that was killed may have left its secret for this port.
+                Path(os.environ["XDG_RUNTIME_DIR"], "bench61499", f"{port}.secret").unlink(missing_ok=True)
+            yield port
         finally:
             server.terminate()
 

@@ -2,6 +2,7 @@
 from __future__ import annotations
 
 import subprocess
+import sys
 import unittest
 
 from exchanging import ExchangeTest
@@ -10,6 +11,8 @@ from tapping import lying
 
 from bench61499 import Put, Session
 from bench61499.cli.looking import ONLY_ASKED
+from bench61499.exchange.from_text import read_or_none
+from bench61499.exchange.spellings import Spellings
 
 MAKER = """\
 FUNCTION_BLOCK Maker
@@ -216,6 +219,18 @@ class BootTest(ExchangeTest):
             self.assertFalse((self.folder / "boot").exists())
             other.commit([Put("CELL", other.text("CELL").revision, given)])
             self.assertEqual(boot(), (0, ""))
+
+    def test_subapplications_that_stand_deep_in_each_other(self) -> None:
+        for number in range(300):
+            inner = f"SUBAPPS A : S{number - 1}; END_SUBAPPS" if number else "FBS A : Maker; END_FBS"
+            self.write(f"lib/S{number}.fb", f"SUBAPPLICATION S{number} {inner} END_SUBAPPLICATION\n")
+        self.addCleanup(sys.setrecursionlimit, sys.getrecursionlimit())
+        units = {it.name.upper(): it for file in (self.folder / "lib").iterdir() if (it := read_or_none(file.read_text()))}
+        cell = read_or_none(system("APPLICATION App SUBAPPS A : S299; END_SUBAPPS END_APPLICATION", "App ON D1.R1;"))
+        assert cell
+        sys.setrecursionlimit(250)
+        found = Spellings(cell, {**units, "CELL": cell}, False).instance("APP" + ".A" * 301)
+        self.assertEqual((found and len(found.names), found and found.unit and found.unit.name), (302, "Maker"))
 
     def test_a_server_with_the_same_texts_and_another_plan(self) -> None:
         """It is no workbench: these files run machines."""

@@ -50,7 +50,7 @@ class Spellings:
 
     def __init__(self, system: Unit, types: Mapping[str, Unit], plain_types: bool):
         self.system, self.types, self._plain_types = system, types, plain_types
-        self.instance = lru_cache(None)(self._instance)
+        self._instances: dict[str, Spelled | None] = {}
         self._packages = {it["type"].upper(): it["package"] for it in recorded(system, "Package") if {"type", "package"} <= it.keys()}
         self._recorded = lru_cache(None)(lambda name: recorded_names(types[name]))
 
@@ -80,8 +80,14 @@ class Spellings:
             return words
         return names.replace_words(value, names.OPERATOR_WORDS, lambda name: self.name(owner, name))
 
-    def _instance(self, path: str) -> Spelled | None:
+    def instance(self, path: str) -> Spelled | None:
         """The instance at a path in upper case, which begins with an application; the application itself if that is all."""
+        if path not in self._instances:
+            for end in (*(at for at, it in enumerate(path) if it == "."), len(path)):  # From the application on: there may be thousands of names.
+                self._instances[path[:end]] = self._instance(path[:end])
+        return self._instances[path]
+
+    def _instance(self, path: str) -> Spelled | None:
         head, _, last = path.rpartition(".")
         if not head:
             application = find(self.system.applications, last)
