@@ -2,6 +2,7 @@
 from __future__ import annotations
 
 import random
+import time
 import unittest
 from collections import Counter
 from pathlib import Path
@@ -355,6 +356,17 @@ of the yard
         self.server.change(self.file("FEEDER"), text)
         self.server.await_codes(FEEDER=["STATE_UNKNOWN"])
         self.assertEqual(self.hover("FEEDER", "MOVE :="), "STATE_UNKNOWN: no state MOVE in this chart; did you mean MOVING?")
+
+    def test_a_line_with_thousands_of_warnings(self):
+        """For each of them the line was read from its start to its end."""
+        names = " ".join(f"F{number} : T{number};" for number in range(4_000))
+        self.write("ITEM.fb", f"TYPE ITEM : STRUCT {names} END_STRUCT END_TYPE")
+        self.server.change(self.file("ITEM"), self.file("ITEM").read_text())
+        while len(self.server.shown.get("ITEM.fb", ())) < 4_000:
+            self.server.read()
+        begin = time.monotonic()
+        self.assertIn("NO_SUCH_TYPE: no type T3999 here", self.hover("ITEM", "T3999"))
+        self.assertLess(time.monotonic() - begin, 4)
 
 
 class CompletionTest(ConveyorTest):

@@ -3,8 +3,15 @@ from __future__ import annotations
 
 import json
 import unittest
+from collections.abc import Callable
+from unittest.mock import patch
 
 from support import InFolder, run, serving, workbench
+
+from bench61499 import Blocked, Net, Recursive
+from bench61499.language import plans
+from bench61499.language.plans import Reason, Reasons
+from bench61499.language.texts import Texts
 
 LOOP = "SUBAPPLICATION {} SUBAPPS {} : {}; END_SUBAPPS END_SUBAPPLICATION"
 
@@ -131,6 +138,27 @@ class PlansTest(InFolder):
         self.edit("FEEDER.fb", "DONE TO IDLE", "DONE TO IDEL")
         blocked = {"code": "BLOCKED", "units": ["FEEDER"], "explanation": "these units are absent or have faults: FEEDER"}
         self.assertEqual(self.reasons("PLANT"), [blocked])
+
+
+class ManyTest(unittest.TestCase):
+    """Chains and rings of many units, as anybody can put them."""
+
+    def told(self, net: Net, leads_to: Callable[[int], int]) -> tuple[list[Reason], int]:
+        """The reasons of all of 600 units, and how many times texts were searched for what they mention."""
+        texts = {f"S{number}": f"SUBAPPLICATION S{number} SUBAPPS A : S{leads_to(number)}; END_SUBAPPS END_SUBAPPLICATION" for number in range(1, 601)}
+        reasons = Reasons(Texts.of(texts))
+        with patch("bench61499.language.plans._types", wraps=plans._types) as searched:
+            return [it for unit in sorted(texts) for it in reasons.of(unit, texts[unit], net)], searched.call_count
+
+    def test_each_text_is_searched_once(self) -> None:
+        found, searched = self.told(Blocked(("S0",)), lambda number: number - 1)
+        self.assertEqual((len(found), {it.start for it in found}), (600, {26, 27, 28}), "each is at its instance")
+        self.assertLessEqual(searched, 601)
+
+    def test_a_ring_is_told_in_few_words(self) -> None:
+        found, searched = self.told(Recursive(tuple(f"S{number}" for number in range(1, 601))), lambda number: number % 600 + 1)
+        self.assertEqual((found[0].explanation, len(found)), ("S1 contains itself", 600))
+        self.assertLessEqual(searched, 601)
 
 
 if __name__ == "__main__":

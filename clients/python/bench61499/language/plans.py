@@ -2,10 +2,11 @@
 from __future__ import annotations
 
 from collections import deque
-from collections.abc import Iterator, Sequence
+from collections.abc import Iterator, Mapping, Sequence
 from dataclasses import dataclass
+from functools import cache
 
-from bench61499 import Blocked, Deploy, Faulty, Flat, Misplaced, Net, Plan, Recursive, Stopped, There, TooLarge
+from bench61499 import UNITS_LIMIT, Blocked, Deploy, Faulty, Flat, Misplaced, Net, Plan, Recursive, Stopped, There, TooLarge
 from bench61499.language.as_declared import AsDeclared, declared
 from bench61499.language.declarations import INSTANCE, LOCAL, TYPE, Declaration, Key, Unit, type_of_data
 from bench61499.language.surroundings import Surroundings
@@ -22,6 +23,10 @@ CODES = {
 """The reasons, by their codes."""
 _MOST_NAMED = 5
 """Units in the way that are named."""
+_MOST_ROUND = 500
+"""Units that are looked at for the way by which a type contains itself."""
+_MOST_STEPS = 20
+"""Steps of such a way that are named."""
 Place = tuple[int, int]
 
 
@@ -41,7 +46,10 @@ class Reasons:
 
     def __init__(self, texts: Texts):
         self._texts = texts
-        self._below: dict[str, frozenset[str]] = {}
+        self._mentioned = cache(lambda unit: _types(texts.unit(unit)))
+        self._goals: tuple[str, ...] = ()
+        self._before: set[str] = set()  # The goals, and units that are known to lead to one.
+        self._apart: set[str] = set()
         self._told: set[str] = set()
 
     def of(self, unit: str, text: str, answer: Net | Deploy | There) -> Iterator[Reason]:
@@ -63,15 +71,19 @@ class Reasons:
         match net:
             case Blocked(units) if units != (unit,):
                 absent = [it for it in units if not self._texts.unit(it)]
-                why = why_blocked(absent, [declared(self._texts, it) for it in units if it not in absent])
+                why = why_blocked(absent, self._declared([it for it in units if self._texts.unit(it)]))
                 yield Reason(unit, "BLOCKED", *self._way(unit, units), f"{without}: {why}")
             case Recursive(units):
                 yield from (self._loop(it) for it in units if it not in self._told and self._texts.unit(it))
                 self._told.update(units)
                 if unit not in units:
-                    yield Reason(unit, "RECURSIVE", *self._way(unit, units), f"{without}: {_contain([declared(self._texts, it) for it in units])}")
+                    yield Reason(unit, "RECURSIVE", *self._way(unit, units), f"{without}: {_contain(self._declared(units))}")
             case TooLarge():
                 yield Reason(unit, "TOO_LARGE", *self._name(unit), f"{without}: it has more than 4,096 instances")
+
+    def _declared(self, units: Sequence[str]) -> list[str]:
+        """Units as they are declared, as far as they are named."""
+        return [*(declared(self._texts, it) for it in units[:_MOST_NAMED]), *units[_MOST_NAMED:]]
 
     def _loop(self, unit: str) -> Reason:
         """A type that contains itself, at the instance that leads back to it."""
@@ -79,17 +91,29 @@ class Reasons:
         return Reason(unit, "RECURSIVE", *self._way(unit, (unit,)), f"{declared(self._texts, unit)} contains itself{steps and f': {steps}'}")
 
     def _steps(self, unit: str) -> list[str]:
-        """The instances that lead from a type back to it by the shortest way; none where the texts have no such way."""
-        ways: dict[str, list[str]] = {}
-        waiting = deque([(unit, list[str]())])
-        while waiting and unit not in ways:
-            at, way = waiting.popleft()
+        """The instances that lead from a type back to it by the shortest way; none where no short one is found."""
+        front: dict[str, tuple[str, Declaration]] = {}
+        waiting = deque([unit])
+        while waiting and unit not in front and len(front) < _MOST_ROUND:
+            at = waiting.popleft()
             for it in self._typed(at):
                 of = type_of_data(it.type)
-                if of not in ways:
-                    ways[of] = [*way, f"{declared(self._texts, at)}.{it.words} is {declared(self._texts, of)}"]
-                    waiting.append((of, ways[of]))
-        return ways.get(unit, [])
+                if of not in front:
+                    front[of] = at, it
+                    waiting.append(of)
+        return self._way_to(unit, front) if unit in front else []
+
+    def _way_to(self, unit: str, front: Mapping[str, tuple[str, Declaration]]) -> list[str]:
+        """A way from a type back to it in words; `front` has what each type is found by."""
+        steps: list[str] = []
+        of = unit
+        while not steps or of != unit:
+            at, it = front[of]
+            steps.append(f"{declared(self._texts, at)}.{it.words} is {declared(self._texts, of)}")
+            of = at
+        if len(steps) > _MOST_STEPS:
+            return []
+        return steps[::-1]
 
     # Places
 
@@ -113,25 +137,31 @@ class Reasons:
 
     def _leading(self, unit: str, goals: Sequence[str]) -> Declaration | None:
         """The first instance or variable of a unit whose type is one of the goals; else the first that leads to one."""
-        its = self._typed(unit)
-        direct = (it for it in its if type_of_data(it.type) in goals)
-        return next(direct, None) or next((it for it in its if not self._reached(type_of_data(it.type)).isdisjoint(goals)), None)
+        its, ends = self._typed(unit), set(goals)
+        most = _MOST_ROUND if ends == {unit} else UNITS_LIMIT
+        direct = (it for it in its if type_of_data(it.type) in ends)
+        return next(direct, None) or next((it for it in its if self._leads(type_of_data(it.type), tuple(goals), most)), None)
 
     def _typed(self, unit: str) -> list[Declaration]:
         """The instances and variables of a unit, not those of algorithms that the workbench skips."""
         known = self._texts.unit(unit)
         return [it for it in known.declared[1:] if it.type and it.key.space != LOCAL] if known else []
 
-    def _reached(self, unit: str) -> frozenset[str]:
-        """What a unit rests on, and itself."""
-        if unit not in self._below:
-            found, waiting = {unit}, [unit]
-            while waiting:
-                new = _types(self._texts.unit(waiting.pop())) - found
-                found |= new
-                waiting += new
-            self._below[unit] = frozenset(found)
-        return self._below[unit]
+    def _leads(self, unit: str, goals: tuple[str, ...], most: int) -> bool:
+        """Whether a unit is one of the goals, or leads to one through so many units at most."""
+        if goals != self._goals:
+            self._goals, self._before, self._apart = goals, set(goals), set()
+        found, waiting = {unit}, [unit]
+        while waiting and len(found) <= most:
+            name = waiting.pop()
+            if name in self._before:
+                self._before.add(unit)
+                return True
+            new = self._mentioned(name) - found - self._apart
+            found |= new
+            waiting += new
+        self._apart |= set() if waiting else found
+        return False
 
 
 def why_blocked(absent: Sequence[str], faulty: Sequence[str]) -> str:

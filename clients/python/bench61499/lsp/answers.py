@@ -9,7 +9,7 @@ from typing import Any
 from bench61499 import TEXT_LIMIT
 from bench61499.language.layout import Edit, applied, formatted
 from bench61499.language.plant import Plant, Text
-from bench61499.language.positions import Position, place
+from bench61499.language.positions import Position, place, position
 from bench61499.language.spelling import differing_in
 from bench61499.lsp.asking import edits_between
 from bench61499.lsp.choices import TITLES, Choices
@@ -64,6 +64,12 @@ CAPABILITIES = {
     "documentFormattingProvider": True,
     "documentRangeFormattingProvider": True,
 }
+
+
+def _is_at(shown: Diagnostic, at: Position) -> bool:
+    """Whether a fault that is shown is at a position."""
+    start, here, end = ((it["line"], it["character"]) for it in (shown["range"]["start"], at, shown["range"]["end"]))
+    return start <= here <= end
 
 
 class CantAnswer(Exception):
@@ -158,18 +164,14 @@ class Answers:
 
     def _hover(self, text: Text, params: Any) -> Any:
         """The faults at the place, and then what the name stands for. It is plain text: what users write is no markup."""
-        at, found = self._place(text, params["position"]), self._found(text, params)
-        told = [f"{it['code']}: {it['message']}" if "code" in it else it["message"] for it in self._shown(text.file) if self._is_at(text, it, at)]
+        at, found = position(text.places, self._place(text, params["position"])), self._found(text, params)
+        told = [f"{it['code']}: {it['message']}" if "code" in it else it["message"] for it in self._shown(text.file) if _is_at(it, at)]
         if found and (words := described(self._plant, found.key)):
             told.append(words)
         if not told:
             return None
         hover = {"contents": {"kind": "plaintext", "value": "\n\n".join(told)}}
         return {**hover, "range": text.range(found.start, found.end)} if found else hover
-
-    def _is_at(self, text: Text, shown: Diagnostic, at: int) -> bool:
-        start, end = self._span(text, shown)
-        return start <= at <= end
 
     def _completion(self, text: Text, params: Any) -> Any:
         found = candidates(self._plant, text, self._place(text, params["position"]))
