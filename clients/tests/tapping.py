@@ -24,7 +24,7 @@ NO_REVISION = 2**64 - 1
 
 
 @contextmanager
-def lying(host: int, lies: Mapping[bytes, bytes]) -> Iterator[int]:
+def false_host(host: int, false_words: Mapping[bytes, bytes]) -> Iterator[int]:
     """A server that answers what a host without a secret answers to it, but for some words; gives its port."""
 
     def serve(client: socket.socket) -> None:
@@ -33,8 +33,8 @@ def lying(host: int, lies: Mapping[bytes, bytes]) -> Iterator[int]:
             for line in requests:
                 true.sendall(line)
                 reply = replies.readline()
-                for words, lie in lies.items():
-                    reply = reply.replace(words, lie)
+                for words, false in false_words.items():
+                    reply = reply.replace(words, false)
                 client.sendall(reply)
 
     def accept() -> None:

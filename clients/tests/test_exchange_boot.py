@@ -7,7 +7,7 @@ import unittest
 
 from exchanging import ExchangeTest
 from support import hosting, run, serving, workbench
-from tapping import lying
+from tapping import false_host
 
 from bench61499 import Put, Session
 from bench61499.cli.looking import ONLY_ASKED
@@ -235,7 +235,7 @@ class BootTest(ExchangeTest):
     def test_a_server_with_the_same_texts_and_another_plan(self) -> None:
         """It is no workbench: these files run machines."""
         self.write("lib/Cell.fb", system("APPLICATION App FBS X : Maker(N := 5); END_FBS END_APPLICATION", "App ON D1.R1;"))
-        with hosting("--open") as host, lying(host, {b"WRITE APP.X.N 5": b"WRITE APP.X.N 6"}) as port:
+        with hosting("--open") as host, false_host(host, {b"WRITE APP.X.N 5": b"WRITE APP.X.N 6"}) as port:
             for at, status in ((host, 0), (port, 2)):
                 self.assertEqual(run("check", "lib", "--connect", f":{host}", "--replace", folder=self.folder).returncode, 0)
                 ran = run("exchange", "boot", "cell", "--files", "lib", "--to", f"boot{status}", "--connect", f":{at}", folder=self.folder)

@@ -14,7 +14,7 @@ from typing import Any
 from unittest.mock import patch
 
 from support import CLIENTS, GREETING, answering, hosting, run, workbench
-from tapping import lying
+from tapping import false_host
 
 from bench61499 import BadReply, Change, ConnectionEnded, NoAnswer, NoResult, Put, Session, StaleBase
 from bench61499.language.units import Misuse, Unit, commit_units
@@ -100,7 +100,7 @@ class ServerTest(unittest.TestCase):
             self.assertRaises(BadReply, session.watch, 3)
 
     def test_faults_that_are_not_in_a_text(self) -> None:
-        with hosting("--open") as host, lying(host, {b'["SYNTAX",0,1]': b'["SYNTAX",0,9]'}) as port:
+        with hosting("--open") as host, false_host(host, {b'["SYNTAX",0,1]': b'["SYNTAX",0,9]'}) as port:
             with Session.connect("127.0.0.1", host) as session:
                 session.commit([Put("A", 0, "X")])
             ran = run("check", "--connect", f":{port}")

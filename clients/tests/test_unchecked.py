@@ -50,10 +50,11 @@ class JudgeTest(unittest.TestCase):
         head = "FUNCTION_BLOCK A SOCKETS F : T; END_SOCKETS VAR V : INT; W : S; END_VAR ALGORITHM Q IN ST"
         texts = {"A": f"{head} V := F.X.IN; V := W.X.IN; END_ALGORITHM END_FUNCTION_BLOCK", "B": "TYPE B : STRUCT END_STRUCT END_TYPE"}
         adapter, structure = "ADAPTER T VAR_INPUT X : B; END_VAR END_ADAPTER", "TYPE S : STRUCT X : B; END_STRUCT END_TYPE"
+        cases: list[tuple[dict[str, str], int]] = [
+            ({"T": adapter, "S": structure}, 2), ({"T": adapter.replace("ADAPTER", "FUNCTION_BLOCK")}, 0), ({"T": adapter[:-11]}, 0), ({"S": structure[:-8]}, 0), ({}, 0),
+        ]
         with Session.script(workbench()) as session:
-            for more, count in (
-                ({"T": adapter, "S": structure}, 2), ({"T": adapter.replace("ADAPTER", "FUNCTION_BLOCK")}, 0), ({"T": adapter[:-11]}, 0), ({"S": structure[:-8]}, 0), ({}, 0),
-            ):
+            for more, count in cases:
                 faults = faults_of(session, texts | more)
                 found = [it for it in Judge(texts["A"], Texts.of(texts | more), broken_units(faults).__contains__).faults() if it.code == "MEMBER_UNKNOWN"]
                 self.assertEqual((len(found), set(found)), (count, {it for it in faults["A"] if it.code == "MEMBER_UNKNOWN"}), more)

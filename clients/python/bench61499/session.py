@@ -453,7 +453,7 @@ def _named(words: str) -> Any:
 
 
 def _number(value: Any) -> int:
-    """A number of a call, a commit or a byte. Raises `ValueError` for what no workbench comes to: who keeps numbers has room for these."""
+    """A number of a call, a commit or a byte. Raises `ValueError` for one that no workbench reaches: files of clients have no room for it."""
     if type(value) is not int or not 0 <= value <= _HIGHEST:
         raise ValueError(value)
     return value

@@ -141,7 +141,7 @@ def boot_of(options: argparse.Namespace) -> Boot:
     spellings = Spellings(system, types, options.plain_types) if system and system.kind == "SYSTEM" else None
     with asking(options, False) as asked:
         starts = [find_start(kind, end, spellings) for kind, end in dict.fromkeys(options.starts) if spellings]
-        subapplications = sorted({it.type for it in starts if types[it.type].kind == "SUBAPPLICATION"})  # Where these starts lead, their networks tell.
+        subapplications = sorted({it.type for it in starts if types[it.type].kind == "SUBAPPLICATION"})  # Where these starts lead is in their networks.
         nets, deploy = values_for(asked, options.unit, subapplications)
     if not spellings or options.connect and (nets, deploy) != values_of_files(options, subapplications):  # The file's text has a SYNTAX fault, or is another one.
         raise another_text(options.unit)
@@ -155,7 +155,7 @@ def values_for(asked: Asked, unit: str, subapplications: list[str]) -> tuple[dic
 
 
 def values_of_files(options: argparse.Namespace, subapplications: list[str]) -> tuple[dict[str, Net], Deploy]:
-    """The same of a workbench of its own. A server that is none has any text, and may have another plan."""
+    """The same of a workbench of its own. A false server may have these texts and another plan."""
     with asking(argparse.Namespace(unit=options.unit, files=options.files, connect=None, program=None), False) as asked:
         return values_for(asked, options.unit, subapplications)
 

@@ -91,7 +91,7 @@ class Reasons:
         return Reason(unit, "RECURSIVE", *self._way(unit, (unit,)), f"{declared(self._texts, unit)} contains itself{steps and f': {steps}'}")
 
     def _steps(self, unit: str) -> list[str]:
-        """The instances that lead from a type back to it by the shortest way; none where no short one is found."""
+        """The instances that lead from a type back to it by the shortest way; none if there is no short one."""
         front: dict[str, tuple[str, Declaration]] = {}
         waiting = deque([unit])
         while waiting and unit not in front and len(front) < _MOST_ROUND:
@@ -148,7 +148,7 @@ class Reasons:
         return [it for it in known.declared[1:] if it.type and it.key.space != LOCAL] if known else []
 
     def _leads(self, unit: str, goals: tuple[str, ...], most: int) -> bool:
-        """Whether a unit is one of the goals, or leads to one through so many units at most."""
+        """Whether a unit is one of the goals, or leads to one through this number of units at most."""
         if goals != self._goals:
             self._goals, self._before, self._apart = goals, set(goals), set()
         found, waiting = {unit}, [unit]
