@@ -11,6 +11,8 @@ mod conversation;
 #[cfg(test)]
 mod cuts;
 #[cfg(test)]
+mod gone;
+#[cfg(test)]
 mod jobs;
 #[cfg(test)]
 mod kept;

@@ -147,7 +147,7 @@ module _ (texts : Texts) (index : Indexed) (is : IsIndexOf texts index) where
 
   -- a key of the texts is reached by the index where the machine says so
   pub reached_by : (key : Key) (names : List (List ℕ)) → has_key texts key ≡ true → (reaches names texts key ≡ true) ↔ IsReached index names key.kind key.unit
-  reached_by key names has = by_kind key.kind key.unit names (is.units key.unit (present texts key has))
+  reached_by key names has = by_kind key.kind key.unit names (is.units key.unit ∙ present texts key has)
 
 -- ---- the keys of two lists of units
 

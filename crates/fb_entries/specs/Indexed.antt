@@ -1,13 +1,20 @@
 -- The index of a workbench, and what changed units reach by it.
-use Rattle.std.specs.Prelude.{◌≡◌, ◌↔◌, ℕ, Bool, true, false, List, is_some}
-use Rattle.fb_index.specs.{Indexed.{Indexed, is_indexed, IsIndexedAs}, Near.{NearSome, ReachesSome}, Library.Texts.{Texts, text_at, sources_of}}
+use Rattle.std.specs.{Prelude.{◌≡◌, ◌↔◌, ℕ, Bool, true, false, List, is_some}, BTreeMap.{is_at}}
+use Rattle.fb_text.specs.Order.{name_cmp}
+use Rattle.fb_index.specs.{Indexed.{Indexed, is_indexed, IsIndexedAs, SameUnit}, Near.{NearSome, ReachesSome}, Library.Texts.{Texts, text_at, sources_of}}
 use Rattle.fb_index.specs.Library.View.{mentioned_at}
 use Rattle.fb_jobs.specs.{declared.keys.key.Key.{Key}, declared.keys.key.Kind.{Kind}, Keys.{has_key}, Kinds.{needs_all}, Reach.{reaches}}
 
--- what is indexed of a unit is what it mentions in these texts, and each of their units is indexed
+-- what is indexed of a unit is what it mentions in these texts, and exactly their units are indexed
 pub record IsIndexOf (texts : Texts) (index : Indexed) : Type 0 where
   pub mentions : (unit : List ℕ) → IsIndexedAs index unit (mentioned_at (sources_of texts) unit)
-  pub units : (unit : List ℕ) → is_some (text_at texts unit) ≡ true → is_indexed index unit ≡ true
+  pub units : (unit : List ℕ) → is_indexed index unit ≡ is_some (text_at texts unit)
+
+-- the unit is indexed as in these texts, if they have it, and each other one as before
+pub record IsUpdated (texts : Texts) (unit : List ℕ) (old new : Indexed) : Type 0 where
+  pub own : IsIndexedAs new unit (mentioned_at (sources_of texts) unit)
+  pub there : is_indexed new unit ≡ is_some (text_at texts unit)
+  pub others : (other : List ℕ) → is_at (name_cmp unit) other ≡ false → SameUnit old new other
 
 -- a changed name is near the unit, or the unit rests on one
 abbrev pub IsReachedFrom : Indexed → List (List ℕ) → Bool → List ℕ → Type 0

@@ -1,9 +1,9 @@
 //! The index of what each unit mentions, after changes.
-ghost use Rattle.std.specs.Prelude.{◌≡◌, None, IfOk};
+ghost use Rattle.std.specs.Prelude.{◌≡◌, None, IfOk, OnOk};
 ghost use Rattle.fb_jobs.specs.Reach.{first_repeated, AgreeApartFrom};
-ghost use Rattle.fb_index.specs.{Library.Texts.{sources_of}, Library.View.{mentioned_at}};
+ghost use Rattle.fb_index.specs.{Indexed.{IsIndexedAs}, Library.Texts.{sources_of}, Library.View.{mentioned_at}};
 ghost use Rattle.fb_tree.specs.Mentions.{mentioned, nothing_mentioned};
-ghost use Rattle.fb_entries.specs.Indexed.{IsIndexOf};
+ghost use Rattle.fb_entries.specs.Indexed.{IsIndexOf, IsUpdated};
 
 use fb_index::Index;
 use fb_index::library::{Library, mentions_by_name};
@@ -31,11 +31,32 @@ pub(crate) fn reindexed(
         is_structure: false,
     };
     for unit in units {
-        let old = mentions_or(before, unit, &none);
-        let new = mentions_or(after, unit, &none);
-        index.replace(alloc, *unit, old, new)?;
+        update(
+            alloc,
+            &mut index,
+            unit,
+            mentions_or(before, unit, &none),
+            after,
+        )?;
     }
     Ok(index)
+}
+
+/// Indexes the unit as in the library after, or takes it out if it is not there; `old` is what it mentioned before.
+fn update(
+    alloc: Global,
+    index: &mut Index,
+    unit: &Name,
+    old: &Mentions,
+    after: &Library,
+) -> Result<(), AllocError>
+    requires known { IsIndexedAs index.old unit.now (mentioned old.now) }
+    ensures { OnOk result (IsUpdated after.now unit.now index.old index.new) }
+{
+    match after.source(unit) {
+        Some(source) => index.replace(alloc, *unit, old, source.mentions()),
+        None => index.remove(alloc, unit, old),
+    }
 }
 
 /// What the unit mentions; nothing if it is absent.

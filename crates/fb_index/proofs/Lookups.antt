@@ -9,7 +9,7 @@ use Rattle.fb_text.specs.Order.{name_cmp}
 use Rattle.fb_library.specs.Seen.{has_name}
 use Rattle.fb_library.proofs.{Names.{name_total, exact_name}, Places.{sorted_put, sorted_removed}, SeenLemmas.{same_is, same_self}}
 use Rattle.fb_tree.specs.Mentions.{Mentioned}
-use Rattle.fb_index.specs.{Users.{UsersByName, users_of, uses, UsesThese, NowUses}, Indexed.{Indexed, mark_of, is_indexed, IsIndexedAs, IsReplaced}}
+use Rattle.fb_index.specs.{Users.{UsersByName, users_of, uses, UsesThese, NowUses}, Indexed.{Indexed, mark_of, is_indexed, IsIndexedAs, IsRemoved, IsReplaced}}
 use Rattle.fb_index.specs.Steps.{is_only_in, HasJoined, HasLeft}
 use Rattle.fb_index.proofs.Bits.{own_bits, other_bits}
 
@@ -186,6 +186,20 @@ module _ (old new : Indexed) (unit : List ℕ) (m : Mentioned) where
 
       here : mark_of new.units unit ≡ Some m.is_structure
       here = mark unit ∙ found (is_at (name_cmp unit) unit) m.is_structure (mark_of old.units unit) (same_self unit)
+
+module _ (old new : Indexed) (unit : List ℕ) where
+  pub unit_removed : NowUses old.parts unit [] new.parts → NowUses old.of_values unit [] new.of_values → IsStrictlySortedBy name_cmp (map (λ e. e.0) old.units) → new.units ≡ remove_entry (is_at (name_cmp unit)) old.units → IsRemoved old unit new
+  unit_removed parts of_values sorted units = record {
+    own = record { parts = parts.own; of_values = of_values.own; structure = ap (λ o. unwrap_or o false) here };
+    gone = ap is_some here;
+    others = λ other apart. record { parts = λ n. parts.others other n apart; of_values = λ n. of_values.others other n apart; mark = mark other ∙ ap (λ b. cond b None (mark_of old.units other)) apart };
+  }
+    where
+      mark : (n : List ℕ) → mark_of new.units n ≡ cond (is_at (name_cmp unit) n) None (mark_of old.units n)
+      mark n = ap (λ us. mark_of us n) units ∙ found_removed old.units unit n sorted
+
+      here : mark_of new.units unit ≡ None
+      here = mark unit ∙ ap (λ b. cond b None (mark_of old.units unit)) (same_self unit)
 
 -- a unit that is indexed with its mentions need not be indexed anew
 pub unchanged : (it : Indexed) (unit : List ℕ) (was now : Mentioned) → IsIndexedAs it unit was → was ≡ now → is_indexed it unit ≡ true → IsReplaced it unit now it

@@ -1,7 +1,7 @@
 -- What is indexed of each unit.
 use Rattle.std.specs.{Prelude.{◌≡◌, ℕ, Bool, true, false, List, [], Option, is_some, unwrap_or}, Map.{lookup}, BTreeMap.{is_at}}
 use Rattle.fb_text.specs.Order.{name_cmp}
-use Rattle.fb_tree.specs.Mentions.{Mentioned}
+use Rattle.fb_tree.specs.Mentions.{Mentioned, nothing_mentioned}
 use Rattle.fb_index.specs.Users.{UsersByName, uses, UsesThese}
 
 -- who has a name as a part, who has it as the type of a value, and of each indexed unit whether it is a structure
@@ -38,4 +38,10 @@ pub record SameUnit (a b : Indexed) (unit : List ℕ) : Type 0 where
 pub record IsReplaced (old : Indexed) (unit : List ℕ) (m : Mentioned) (new : Indexed) : Type 0 where
   pub own : IsIndexedAs new unit m
   pub there : is_indexed new unit ≡ true
+  pub others : (other : List ℕ) → is_at (name_cmp unit) other ≡ false → SameUnit old new other
+
+-- nothing is indexed of the unit any more, and each other one is indexed as before
+pub record IsRemoved (old : Indexed) (unit : List ℕ) (new : Indexed) : Type 0 where
+  pub own : IsIndexedAs new unit nothing_mentioned
+  pub gone : is_indexed new unit ≡ false
   pub others : (other : List ℕ) → is_at (name_cmp unit) other ≡ false → SameUnit old new other

@@ -1,10 +1,10 @@
 //! The index of the units by what they mention.
-//! A removed or broken unit stays indexed, without mentions: it marks nothing, since a commit marks only keys of the new texts.
+//! A broken unit is indexed without mentions; a removed one leaves the index, so names that are gone cost no memory.
 ghost use Rattle.std.specs.{Prelude.{◌≡◌, ◌↔◌, true, List, ℕ, IfOk, OnOk, OnErr}, List.Sorted.{IsStrictlySortedBy}};
 ghost use Rattle.fb_text.specs.Order.{name_cmp};
 ghost use Rattle.fb_tree.specs.Mentions.{mentioned};
 ghost use Rattle.fb_library.specs.Seen.{has_name};
-ghost use Rattle.fb_index.specs.{Indexed.{is_indexed, nothing_indexed, IsIndexedAs, IsReplaced}, Near.{AreUnits, NearSome, ReachesSome}};
+ghost use Rattle.fb_index.specs.{Indexed.{is_indexed, nothing_indexed, IsIndexedAs, IsRemoved, IsReplaced}, Near.{AreUnits, NearSome, ReachesSome}};
 
 use crate::tables::Tables;
 use fb_text::Name;
@@ -12,8 +12,8 @@ use fb_tree::Mentions;
 use std::alloc::{AllocError, Global};
 use std::marker::Model;
 
-/// Which units mention a name, directly or through others. A unit stays indexed from its first `replace` on, and each unit that mentions a name is
-/// indexed.
+/// Which units mention a name, directly or through others. A unit is indexed from its first `replace` to its `remove`, and each unit that mentions a
+/// name is indexed.
 pub struct Index {
     tables: Tables,
 }
@@ -68,6 +68,15 @@ impl Index {
         ensures err { OnErr result (self.new ≡ self.old) }
     {
         self.tables.replace(alloc, unit, old, new)
+    }
+
+    /// Takes the unit out of the index, with these mentions. If there is no memory, the index stays unchanged.
+    pub fn remove(&mut self, alloc: Global, unit: &Name, old: &Mentions) -> Result<(), AllocError>
+        requires known { IsIndexedAs self.old unit.now (mentioned old.now) }
+        ensures ok { OnOk result (IsRemoved self.old unit.now self.new) }
+        ensures err { OnErr result (self.new ≡ self.old) }
+    {
+        self.tables.remove(alloc, unit, old)
     }
 
     /// The indexed units near which one of the names is, in order.

@@ -4,7 +4,7 @@ ghost use Rattle.std.specs.List.Sorted.{IsStrictlySortedBy};
 ghost use Rattle.fb_text.specs.Order.{name_cmp};
 ghost use Rattle.fb_tree.specs.Mentions.{mentioned};
 ghost use Rattle.fb_library.specs.Seen.{has_name, Opens};
-ghost use Rattle.fb_index.specs.{Users.{users_of}, Indexed.{is_indexed, is_structure_in, nothing_indexed, IsIndexedAs, IsReplaced}};
+ghost use Rattle.fb_index.specs.{Users.{users_of}, Indexed.{is_indexed, is_structure_in, nothing_indexed, IsIndexedAs, IsRemoved, IsReplaced}};
 ghost use Rattle.fb_index.specs.Near.{carrying_on, mentioning, CarriesSome, NearSome, ReachesSome};
 
 use crate::users::Users;
@@ -96,6 +96,31 @@ impl Tables {
             new.of_values.as_slice(),
         )?;
         tables.units.put(unit, Arc::new(alloc, new.is_structure)?)?;
+        *self = tables;
+        Ok(())
+    }
+
+    /// Takes the unit out, with these mentions. For lack of memory nothing is changed.
+    pub(crate) fn remove(
+        &mut self,
+        alloc: Global,
+        unit: &Name,
+        old: &Mentions,
+    ) -> Result<(), AllocError>
+        requires known { IsIndexedAs self.old unit.now (mentioned old.now) }
+        ensures ok { OnOk result (IsRemoved self.old unit.now self.new) }
+        ensures err { OnErr result (self.new ≡ self.old) }
+    {
+        let mut tables = self.copy()?;
+        // For the proof: the names are in order.
+        let _first = tables.units.name_at(0);
+        tables
+            .parts
+            .replace(alloc, unit, old.parts.as_slice(), &[])?;
+        tables
+            .of_values
+            .replace(alloc, unit, old.of_values.as_slice(), &[])?;
+        tables.units.remove(unit)?;
         *self = tables;
         Ok(())
     }

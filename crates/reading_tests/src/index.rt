@@ -64,6 +64,8 @@ struct Case {
     /// What the second unit mentions in the end.
     change: Mentions,
     after: &'static [Row],
+    /// Once the second unit is gone.
+    gone: &'static [Row],
 }
 
 fn refuse_same(a: &Name, b: &Name) -> Result<(), Fail>
@@ -112,7 +114,7 @@ fn compare_copies(rt: &impl Abort, alloc: Global, index: &Index, rows: &[Row]) -
     compare(rt, alloc, &index.copy()?, rows)
 }
 
-/// Fills an index, and compares it with a copy that is changed.
+/// Fills an index, and compares it with a copy that is changed, and from which a unit is then removed.
 fn compare_filled(rt: &impl Abort, alloc: Global, case: &Case) -> Result<(), Fail> {
     let mut index = Index::new(alloc);
     fill(&mut index, alloc, case)?;
@@ -120,7 +122,9 @@ fn compare_filled(rt: &impl Abort, alloc: Global, case: &Case) -> Result<(), Fai
     let unit = &case.second;
     copy.replace(alloc, unit.name, &unit.mentions, &case.change)?;
     compare_copies(rt, alloc, &index, case.before)?;
-    compare_copies(rt, alloc, &copy, case.after)
+    compare_copies(rt, alloc, &copy, case.after)?;
+    copy.remove(alloc, &unit.name, &case.change)?;
+    compare_copies(rt, alloc, &copy, case.gone)
 }
 
 /// A mentions B, B mentions A, and S mentions A, until B mentions nothing any more.
@@ -134,6 +138,7 @@ fn recursive(alloc: Global) -> Result<Case, Fail> {
         before: &[("B", "A B ", "A B S "), ("T", "T ", "T ")],
         change: nothing(alloc),
         after: &[("A", "A S ", "A S "), ("X", "", "")],
+        gone: &[("A", "A S ", "A S "), ("B", "A ", "A S ")],
     })
 }
 
@@ -148,6 +153,7 @@ fn structures(alloc: Global) -> Result<Case, Fail> {
         before: &[("U", "S U V W ", "S U V W "), ("S", "S V W ", "S V W ")],
         change: values(alloc, &[u], false)?,
         after: &[("U", "S U ", "S U V W "), ("S", "S V W ", "S V W ")],
+        gone: &[("U", "U ", "U "), ("S", "V W ", "V W ")],
     })
 }
 

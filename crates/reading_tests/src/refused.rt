@@ -118,6 +118,8 @@ impl Trial for Text {
 enum Which {
     /// The first unit of an index is indexed.
     Replace,
+    /// The unit is removed again.
+    Remove,
     Copy,
     NearOf,
     FarOf,
@@ -152,6 +154,20 @@ fn say_index(
 fn index_anew(alloc: Global, index: &mut Index, unit: Name, mentioned: &Mentions) -> bool {
     let mut new = Index::new(alloc);
     let is_served = new.replace(alloc, unit, &nothing(alloc), mentioned).is_ok();
+    *index = new;
+    is_served
+}
+
+// A new index after a unit was put and removed again. If that fails, the index has the unit.
+fn remove_anew(alloc: Global, index: &mut Index, unit: Name, mentioned: &Mentions) -> bool {
+    let mut new = Index::new(alloc);
+    if new
+        .replace(alloc, unit, &nothing(alloc), mentioned)
+        .is_err()
+    {
+        return false;
+    }
+    let is_served = new.remove(alloc, &unit, mentioned).is_ok();
     *index = new;
     is_served
 }
@@ -194,6 +210,7 @@ impl Trial for Indexed {
         let [a, b, c] = self.names;
         match self.which {
             Which::Replace => index_anew(alloc, &mut self.index, a, &self.mentions),
+            Which::Remove => remove_anew(alloc, &mut self.index, a, &self.mentions),
             Which::Copy => kept(&mut self.copy, self.index.copy()),
             Which::NearOf => kept(&mut self.found, self.index.near_of(alloc, &[b, c])),
             Which::FarOf => kept(&mut self.found, self.index.far_of(alloc, &[b, c])),
@@ -231,6 +248,7 @@ fn texts(rt: HostRuntime) -> Result<(), Fail> {
 fn indexes(rt: HostRuntime) -> Result<(), Fail> {
     let alloc: Global = rt.alloc();
     try_call::<Indexed>(&rt, alloc, "Index::replace", "", Which::Replace)?;
+    try_call::<Indexed>(&rt, alloc, "Index::remove", "", Which::Remove)?;
     try_call::<Indexed>(&rt, alloc, "Index::copy", "", Which::Copy)?;
     try_call::<Indexed>(&rt, alloc, "Index::near_of", "", Which::NearOf)?;
     try_call::<Indexed>(&rt, alloc, "Index::far_of", "", Which::FarOf)

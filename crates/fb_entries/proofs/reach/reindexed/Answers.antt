@@ -11,14 +11,14 @@ loop-unit-init c = (
   reindexed_none c.args.before.now c.args.after.now c.args.index.now c.in_ok-index.index c.requires.known c.in_ok-index.ensures,
 )
 
-pub replace-requires : goal.replace-requires
-replace-requires c =
+pub update-requires : goal.update-requires
+update-requires c =
     let units = c.args.units.now in
     let i = c.loop-unit.unit-index in
     let x = c.unit-item.result in
     let rest : drop i units ≡ x ∷ drop (i + 1) units = grind (arith, common_steps) in
     let once : repeated_after (take i units) (x ∷ drop (i + 1) units) ≡ None = ap (repeated_after (take i units)) (sym rest) ∙ c.loop-unit.invariant.0 in
-    record { known = known_here c.args.before.now c.args.after.now (take i units) x c.args.index.now c.loop-unit.index (mentioned c.mentions_or-old.result.now) c.loop-unit.invariant.1 (not_again (take i units) (drop (i + 1) units) x once) c.mentions_or-old.ensures }
+    record { known = known_here c.args.before.now c.args.after.now (take i units) x c.args.index.now c.loop-unit.index (mentioned c.mentions_or.result.now) c.loop-unit.invariant.1 (not_again (take i units) (drop (i + 1) units) x once) c.mentions_or.ensures }
 
 pub loop-unit-preserved : goal.loop-unit-preserved
 loop-unit-preserved c =
@@ -29,7 +29,7 @@ loop-unit-preserved c =
     let rest : drop i units ≡ x ∷ drop (i + 1) units = grind (arith, common_steps) in
     let once : repeated_after (take i units) (x ∷ drop (i + 1) units) ≡ None = ap (repeated_after (take i units)) (sym rest) ∙ c.loop-unit.invariant.0 in (
       ap (λ us. repeated_after us (drop (i + 1) units)) more ∙ none_again (take i units) (drop (i + 1) units) x once,
-      reindexed_more c.args.before.now c.args.after.now (take i units) (take (i + 1) units) x c.args.index.now c.loop-unit.index c.replace.new.self (mentioned c.mentions_or-new.result.now) more (not_again (take i units) (drop (i + 1) units) x once) c.loop-unit.invariant.1 c.mentions_or-new.ensures c.in_ok-replace.ensures.ok,
+      reindexed_more c.args.before.now c.args.after.now (take i units) (take (i + 1) units) x c.args.index.now c.loop-unit.index c.update.new.index more (not_again (take i units) (drop (i + 1) units) x once) c.loop-unit.invariant.1 c.in_ok-update.ensures,
     )
 
 pub returns : goal.returns
