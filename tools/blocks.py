@@ -54,7 +54,7 @@ def options(client, shared=False):
     return code_parts.table(["Option", "Effect"], rows, "---") + status
 
 
-SHARED = ("--program ", "--connect ", "--secret ")
+SHARED = ("--program ", "--connect ", "--secret ", "--memory-limit ")
 CLIENTS = ("check", "format", "plan", "draw", "trace", "board", "sync", "log", "exchange import", "exchange export", "exchange boot")
 
 TABLES = {

@@ -17,7 +17,7 @@ from measuring import SECRET
 
 # How many bytes the first and the second line of a host have.
 CHALLENGE_LINE, PROOF_LINE = 81, 77
-# How many silent connections there are at once, more than the host has threads for, for how many seconds, and how many come in each second of them.
+# How many silent connections there are at once, for how many seconds, and how many come in each second of them.
 SILENT, SILENCE, NEWCOMERS = 40, 5, 20
 # How many keys one session keeps, and for how many seconds: longer than a key may be out, than a session may be idle, and than a reply may make no headway.
 KEPT, TOO_LONG = 5, 70

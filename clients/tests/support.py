@@ -69,11 +69,16 @@ def _running(*more: str) -> Iterator[int]:
             if not line.startswith("listening on "):
                 raise AssertionError("the workbench can't serve")
             port = int(line.rpartition(":")[2])
-            if more[0] == "serve":  # A host that was killed may have left its secret for this port.
-                Path(os.environ["XDG_RUNTIME_DIR"], "bench61499", f"{port}.secret").unlink(missing_ok=True)
+            if more[0] == "serve":
+                forget_secret(port)
             yield port
         finally:
             server.terminate()
+
+
+def forget_secret(port: int) -> None:
+    """Removes the secret that a host at this port may have left when it was killed."""
+    Path(os.environ["XDG_RUNTIME_DIR"], "bench61499", f"{port}.secret").unlink(missing_ok=True)
 
 
 HISTORY = 3_000
@@ -100,10 +105,12 @@ def answering(*replies: bytes) -> Iterator[int]:
     The first line that a client sends is its greeting; `GREETING` is the answer.
     """
     with socket.create_server(("127.0.0.1", 0)) as listener:
+        port = listener.getsockname()[1]
+        forget_secret(port)
         thread = threading.Thread(target=_answer, args=(listener, replies))
         thread.start()
         try:
-            yield listener.getsockname()[1]
+            yield port
         finally:
             thread.join()
 

@@ -305,7 +305,7 @@ class PatienceTest(Shared):
                 for words in ((), ("--plans",)):
                     ran = self.check(port, "--patience", "1", *words)
                     self.assertEqual((ran.returncode, ran.stdout), (2, ""))
-                    self.assertEqual(ran.stderr, f"check: no result for 1 seconds: faults of {job}; another session may have taken them and not delivered them\n")
+                    self.assertEqual(ran.stderr, f"check: no result for 1 seconds: faults of {job}; another session may have taken them and not delivered them, or the server has no memory for them\n")
 
     def test_a_session_that_works_itself_gives_up_too(self) -> None:
         with serving(2, "--workers", "1") as port, Session.connect("127.0.0.1", port) as thief, Session.connect("127.0.0.1", port) as session:

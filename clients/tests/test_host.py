@@ -128,7 +128,7 @@ class ChainTest(OneConnection):
         while b'"pending":0' not in self.asked({"op": "status"}) and time.monotonic() < ends:
             time.sleep(0.1)
         self.assertEqual(b'{"faults":[]}\n', self.asked({"op": "ask", "kind": "faults", "unit": f"T{self.LENGTH - 1}"}))
-        pages = int(Path(f"/proc/{self.host.pid}/statm").read_text().split()[1])
+        pages = int(Path(f"/proc/{self.host.pid}/statm").read_text(encoding="utf-8").split()[1])
         self.assertLess(pages * os.sysconf("SC_PAGE_SIZE"), self.MOST)
 
 

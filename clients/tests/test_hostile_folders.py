@@ -244,10 +244,11 @@ class StateTest(HostileTest):
         away = self.folder / "away"
         away.mkdir()
         opened = Store(self.plant)
-        (opened.kept / "A").symlink_to(away)
+        kept = opened.folder / "kept"
+        (kept / "A").symlink_to(away)
         self.assertRaises(OSError, opened.keep, "A", "1.fb")
         opened.close()
-        (opened.kept / "_").symlink_to(away)
+        (kept / "_").symlink_to(away)
         (opened.drafts / "login.desktop").write_text("Exec=evil")
         with self.assertRaisesRegex(Misuse, "kept/_ is a link, and has to be none"):
             Store(self.plant)

@@ -15,7 +15,10 @@ import unittest
 from functools import cache
 from pathlib import Path
 
-from support import CLIENTS, CONVEYOR, InFolder, run, workbench
+from support import CLIENTS, CONVEYOR, InFolder, run, until, workbench
+
+from bench61499 import Put, Session
+from bench61499.memory import amount_in
 
 TOP = CLIENTS.parent
 PACKAGING = TOP / "packaging"
@@ -304,6 +307,29 @@ class WordsTest(InFolder):
         self.assertEqual(words[-2:], ["--secret", "/secret"])
         self.listens([*words[:-1], str(self.secret())])
         self.assertIn("\nSTOPSIGNAL SIGKILL\n", lines)
+
+    def limits(self) -> tuple[list[int], list[int]]:
+        """What the unit and the container may have of data and of memory, in bytes."""
+        installing = (PACKAGING / "INSTALL.md").read_text()
+        words = [*re.search(r"^LimitDATA=(.*)$", UNIT.read_text(), re.M).groups(), *re.search(r" --ulimit data=(\S+)", installing).groups()]
+        most = [*re.search(r"^MemoryMax=(.*)$", UNIT.read_text(), re.M).groups(), *re.search(r" --memory (\S+)", installing).groups()]
+        return [amount_in(it) for it in words], [amount_in(it) for it in most]
+
+    def test_a_lack_of_memory_is_noticed_before_the_system_ends_the_server(self) -> None:
+        """There is room for the texts of `--memory`, and for as many sessions as there can be."""
+        for data, most in zip(*self.limits(), strict=True):
+            self.assertTrue(2**31 < data < most, (data, most))
+            self.serves_all(data)
+
+    def serves_all(self, data: int) -> None:
+        """Starts a host of 255 sessions that may have these bytes of data: a session has to work."""
+        words = [workbench(), "host", "--port", "0", "--sessions", "255", "--secret", str(self.secret())]
+        with subprocess.Popen(["sh", "-c", f'ulimit -d {data // 1024} && exec "$@"', "-", *words], stdout=subprocess.PIPE, text=True) as host:
+            port = int(host.stdout.readline().rpartition(":")[2])
+            until(lambda: host.poll() is not None or len(os.listdir(f"/proc/{host.pid}/task")) > 255 + 3)
+            with Session.connect("127.0.0.1", port, secret=self.secret().read_text().strip()) as session:
+                self.assertEqual(session.commit([Put("A", 0, "")]), 1)
+            host.terminate()
 
     @unittest.skipUnless(shutil.which("systemd-analyze"), "systemd is not installed")
     def test_systemd_takes_the_unit(self) -> None:

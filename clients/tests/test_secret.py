@@ -4,13 +4,15 @@ from __future__ import annotations
 import hmac
 import os
 import socket
+import subprocess
 import threading
 from collections.abc import Callable, Iterator
 from contextlib import contextmanager, suppress
 from pathlib import Path
+from shlex import quote
 from unittest.mock import patch
 
-from support import GREETING, InFolder, run
+from support import CONVEYOR, GREETING, InFolder, run, workbench
 
 from bench61499 import NoAnswer, NoSecret, NotLetIn, NotYourHost, Session
 from bench61499.secret import UnfitSecret, exchange_for, read_secret, secret_at, secret_file
@@ -83,6 +85,16 @@ def listening(answer: Answer = prove, first: bytes = f'{{"challenge":"{CHALLENGE
         yield peer
     finally:
         peer.close()
+
+
+@contextmanager
+def started(command: str, port: int) -> Iterator[int]:
+    """A server at a port, any for 0, that is killed at the end."""
+    with subprocess.Popen([workbench(), command, "--port", str(port), "--sessions", "4"], stdout=subprocess.PIPE, stderr=subprocess.DEVNULL, text=True) as server:
+        try:
+            yield int(server.stdout.readline().rpartition(":")[2])
+        finally:
+            server.kill()
 
 
 class FirstContactTest(InFolder):
@@ -196,8 +208,33 @@ class FileTest(InFolder):
             file = self.put(peer.port)
             with self.assertRaises(NotYourHost) as failed:
                 Session.connect("127.0.0.1", peer.port, timeout=0.2)
-            self.assertTrue(str(failed.exception).endswith(f", or it was started without a secret (there is one in {file})"))
+            self.assertTrue(str(failed.exception).endswith(f", or it was started without a secret{self.left(file)}"), failed.exception)
             self.assertEqual(peer.lines, [])
+
+    def left(self, file: Path) -> str:
+        return f"; {file} is from a host that was at this port: if that was killed and the server there now is yours, `rm {quote(str(file))}`"
+
+    def test_a_host_that_has_left_its_secret_behind_another_one(self) -> None:
+        """As if its port leads to another machine now."""
+        for answer, kind, words in ((lambda _: b"", NotLetIn, "the secret may be wrong"), (lambda _: b'{"proof":""}\n', NotYourHost, "it is not your host")):
+            with listening(answer) as peer, self.assertRaises(kind) as failed:
+                file = self.put(peer.port)
+                Session.connect("127.0.0.1", peer.port)
+            self.assertTrue(str(failed.exception).endswith(words + self.left(file)), failed.exception)
+
+    def test_a_server_at_the_port_of_a_host_that_was_killed(self) -> None:
+        """Its user learns what to do. A program of somebody else at the port gets no request."""
+        with started("host", 0) as port:
+            file = self.folder / "bench61499" / f"{port}.secret"
+        self.assertTrue(file.exists())
+        with started("serve", port):
+            ran = run("check", "--connect", f":{port}", CONVEYOR, "--replace", "--quiet")
+            self.assertEqual((ran.returncode, ran.stdout), (2, ""))
+            self.assertTrue(ran.stderr.startswith(f"check: the program at 127.0.0.1:{port} sends no challenge: "), ran.stderr)
+            self.assertTrue(file.exists())
+            subprocess.run(["sh", "-c", ran.stderr.split("`")[1]], check=True)
+            ran = run("check", "--connect", f":{port}", CONVEYOR, "--replace", "--quiet")
+            self.assertEqual((ran.returncode, ran.stdout, ran.stderr), (0, "", ""))
 
     def test_no_secret_is_wanted(self) -> None:
         with listening(first=b"", answer=_greet) as peer:

@@ -323,6 +323,7 @@ class KeeperTest(InFolder):
     def both(self, text: str = A) -> tuple[Kept, Kept]:
         """Two folders that have a unit A."""
         one, other = self.keeping("one"), self.keeping("other")
+        until(lambda: all(it.team.workbench for it in (one, other)))
         one.file("A.fb").write_text(text)
         self.settle(one, other)
         self.assertEqual(other.texts(), {"A.fb": text})

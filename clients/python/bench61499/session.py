@@ -2,17 +2,21 @@
 from __future__ import annotations
 
 import json
+import os
 import re
 import socket
 import subprocess
 import threading
 import time
 from collections.abc import Callable, Container, Iterable, Iterator, Mapping
+from contextlib import suppress
 from dataclasses import dataclass
 from os import PathLike, fspath
 from random import uniform
+from shlex import quote
 from typing import Any, BinaryIO, Literal, NamedTuple, Self, TypeVar, cast
 
+from bench61499.memory import MEMORY_LIMIT, amount, limit_data
 from bench61499.secret import UnfitSecret, exchange_for, secret_at, secret_file
 
 CHANGES_LIMIT = 16
@@ -60,6 +64,8 @@ _FIRST_TRY, _LAST_TRY = 1.0, 15.0
 _PIECE = 65_536
 # Bytes a second at which a reply may come at least, behind those of the time in which the first of them is waited for.
 _SLOWEST = 65_536
+# What a workbench prints when it ends for lack of memory.
+_NO_MEMORY = b"bench61499: out of memory\n"
 _USED_UP = "a `serve` ends once its sessions are used up"
 
 
@@ -76,6 +82,15 @@ class NoWorkbench(WorkbenchError):
 
 class ConnectionEnded(WorkbenchError):
     """The workbench ended, or hung up, before its reply was there. The session can't be used any more."""
+
+
+class OutOfMemory(ConnectionEnded):
+    """A workbench that was started has ended, as it had no memory left. `limit` is what it was allowed in bytes, None for no limit."""
+
+    def __init__(self, limit: int | None):
+        within = f" within its limit of {amount(limit)}, and has ended; --memory-limit raises it" if limit else ", and has ended"
+        super().__init__(f"the workbench has no memory left{within}")
+        self.limit = limit
 
 
 class NoSecret(NoWorkbench):
@@ -636,15 +651,65 @@ def _found_secret(port: int) -> str | None:
 # Sessions
 
 
-class _Pipes:
-    """A child process that reads requests from its standard input. What it says on standard error is shown as it comes."""
+class _Said:
+    """What a child process prints on standard error: it is shown as it comes, but for the line that memory is lacking, which an exception has in other words."""
 
-    def __init__(self, words: list[str]):
+    def __init__(self) -> None:
+        self._from, self.to = os.pipe()
+        self.lacks_memory = False
+        self._thread = threading.Thread(target=self._pass_on, daemon=True)
+
+    def start(self) -> None:
+        """Shows what comes from now on. The child process has its end."""
+        os.close(self.to)
+        self._thread.start()
+
+    def drop(self) -> None:
+        """There is no child process."""
+        os.close(self.to)
+        os.close(self._from)
+
+    def _pass_on(self) -> None:
+        held = b""
+        with open(self._from, "rb", buffering=0) as said:
+            while piece := said.read(_PIECE):
+                held += piece
+                begin = held.rfind(b"\n", 0, -1) + 1
+                shown = begin if _NO_MEMORY.startswith(held[begin:]) else len(held)
+                _show(held[:shown])
+                held = held[shown:]
+        self.lacks_memory = held == _NO_MEMORY
+        if not self.lacks_memory:
+            _show(held)
+
+    def end(self) -> None:
+        """The process has ended. Others that it has started may still hold the pipe."""
+        self._thread.join(1)
+
+
+def _show(said: bytes) -> None:
+    with suppress(OSError):
+        os.write(2, said)
+
+
+class _Pipes:
+    """A child process that reads requests from its standard input, and has a limit of memory if one is given."""
+
+    def __init__(self, words: list[str], limit: int | None = None):
+        self._said, self._limit = _Said(), limit
         try:
-            self._process = subprocess.Popen(words, stdin=subprocess.PIPE, stdout=subprocess.PIPE)
+            self._process = subprocess.Popen(words, stdin=subprocess.PIPE, stdout=subprocess.PIPE, stderr=self._said.to)
         except OSError as error:
+            self._said.drop()
             raise NoWorkbench(f"can't start the workbench {words[0]}: {error.strerror}") from error
+        self._said.start()
         self._input, self._output = cast(BinaryIO, self._process.stdin), cast(BinaryIO, self._process.stdout)
+        try:
+            if limit is not None:
+                self._limit = limit_data(self._process.pid, limit)
+        except OSError as error:
+            self.close()
+            raise NoWorkbench(f"the memory of the workbench can't be limited: {error.strerror}; --memory-limit none starts it without a limit") from error
 
     def send(self, line: bytes) -> None:
         try:
@@ -661,6 +726,8 @@ class _Pipes:
 
     def _ended(self) -> ConnectionEnded:
         self.close()
+        if self._said.lacks_memory:
+            return OutOfMemory(self._limit)
         return ConnectionEnded(f"the workbench ended before it answered (status {self._process.returncode})")
 
     def close(self) -> None:
@@ -674,6 +741,7 @@ class _Pipes:
             self._process.kill()
             self._process.wait()
         self._output.close()
+        self._said.end()
 
 
 class _Connection:
@@ -752,9 +820,15 @@ class _Connection:
             self._socket.close()
 
 
-def _prove(connection: _Connection, secret: str, source: str) -> None:
-    """Proves to a host that the client has the secret, and makes sure that the host has it too. `source` says where the secret was found."""
-    silent, why = f"the program at {connection.address} sends no challenge: ", f"it is not your host, or it was started without a secret{source}"
+def _left_secret(port: int) -> str:
+    """Advice about a secret that a host has left. Nobody but its user can know whether to trust who listens there now."""
+    file = secret_file(port)
+    return f"; {file} is from a host that was at this port: if that was killed and the server there now is yours, `rm {quote(str(file))}`"
+
+
+def _prove(connection: _Connection, secret: str, advice: str) -> None:
+    """Proves to a host that the client has the secret, and makes sure that the host has it too. `advice` is for a secret that may be of no use any more."""
+    silent, why = f"the program at {connection.address} sends no challenge: ", f"it is not your host, or it was started without a secret{advice}"
     try:
         exchange = exchange_for(secret, connection.receive())
     except NoAnswer as error:
@@ -767,9 +841,9 @@ def _prove(connection: _Connection, secret: str, source: str) -> None:
         connection.send(exchange.answer)
         is_proved = exchange.is_proof(connection.receive())
     except ConnectionEnded as error:
-        raise NotLetIn(f"{error}: the secret may be wrong") from error
+        raise NotLetIn(f"{error}: the secret may be wrong{advice}") from error
     if not is_proved:
-        raise NotYourHost(f"the program at {connection.address} does not have the secret: it is not your host")
+        raise NotYourHost(f"the program at {connection.address} does not have the secret: it is not your host{advice}")
 
 
 class Session:
@@ -789,12 +863,12 @@ class Session:
         self.patience = PATIENCE
 
     @classmethod
-    def script(cls, program: str | PathLike[str], units: int = UNITS_LIMIT, history: int = HISTORY_LIMIT) -> Session:
-        """Starts a workbench as a child process, for at most so many units and recorded calls. It ends with the session.
+    def script(cls, program: str | PathLike[str], units: int = UNITS_LIMIT, history: int = HISTORY_LIMIT, memory: int | None = MEMORY_LIMIT) -> Session:
+        """Starts a workbench as a child process, with these limits of units, recorded calls and bytes of memory, None for no limit of memory. It ends with the session.
 
-        Raises `NoWorkbench` where the program can't be started.
+        Raises `NoWorkbench` where the program can't be started. A call for which its memory does not suffice raises `OutOfMemory`.
         """
-        return cls(_Pipes([fspath(program), "script", "--units", str(units), "--history", str(history)]))
+        return cls(_Pipes([fspath(program), "script", "--units", str(units), "--history", str(history)], memory))
 
     @classmethod
     def connect(cls, host: str, port: int, timeout: float = 60, secret: str | None = None) -> Self:
@@ -811,7 +885,7 @@ class Session:
         session = cls(connection)
         try:
             if secret or found:
-                _prove(connection, secret or found or "", f" (there is one in {secret_file(port)})" if found else "")
+                _prove(connection, secret or found or "", _left_secret(port) if found else "")
             session._greet(f"there is none in {secret_file(port)}" if is_here else "none was named")
         except WorkbenchError:
             session.close()
@@ -1087,6 +1161,13 @@ class Session:
         Calls `progress` now and then with the number of results so far. Units that others have removed since are left out. Where others
         work too, it waits for the results that are in their hands, and raises `NoResult` if it waits in vain.
         """
+        return self._settle(progress, is_all=True)
+
+    def find_faults(self, progress: Callable[[int], object] | None = None) -> dict[str, tuple[Fault, ...]]:
+        """As `settle`, but it works only until these faults are known. They come before networks and plans, which can be large, so a workbench of its own computes none of those."""
+        return self._settle(progress, is_all=False)
+
+    def _settle(self, progress: Callable[[int], object] | None, is_all: bool) -> dict[str, tuple[Fault, ...]]:
         settled: dict[str, tuple[Fault, ...]] = {}
         waiting = set(self.revisions)
 
@@ -1096,19 +1177,16 @@ class Session:
             waiting.intersection_update(unit for (_, unit), faults in found.items() if faults is None)
             return None if waiting else True
 
-        self._work_until(ask_all, progress, lambda: [("faults", unit) for unit in sorted(waiting)])
+        self._work_until(ask_all, progress, lambda: [("faults", unit) for unit in sorted(waiting)], is_all)
         return settled
 
-    def _work_until(self, answer: Callable[[], Value | None], progress: Callable[[int], object] | None, waiting: Callable[[], list[Key]]) -> Value:
+    def _work_until(
+        self, answer: Callable[[], Value | None], progress: Callable[[int], object] | None, waiting: Callable[[], list[Key]], is_all: bool = True
+    ) -> Value:
         accepted, pause = 0, _FIRST_PAUSE
         waits = Waits(self.patience)
         while True:
-            while done := self.work(_TURNS):
-                accepted += done
-                if progress:
-                    progress(accepted)
-                if done < _TURNS:
-                    break
+            accepted += self.work_off(HISTORY_LIMIT if is_all else len(waiting()), progress, accepted)
             value = answer()
             if value is not None:
                 return value
@@ -1116,6 +1194,19 @@ class Session:
             waits.go_on(keys, accepted - len(keys))
             time.sleep(pause)
             pause = min(2 * pause, _LONGEST_PAUSE)
+
+    def work_off(self, most: int = HISTORY_LIMIT, progress: Callable[[int], object] | None = None, before: int = 0) -> int:
+        """Does jobs until there is none to take, or `most` were done, and gives how many results were accepted. `progress` as in `settle`, which counts from `before`."""
+        accepted = 0
+        while accepted < most:
+            turns = min(most - accepted, _TURNS)
+            done = self.work(turns)
+            accepted += done
+            if done and progress:
+                progress(before + accepted)
+            if done < turns:
+                break
+        return accepted
 
 
 class Waits:
@@ -1138,4 +1229,4 @@ def _why_none(pending: list[Key], seconds: float) -> str:
     if not pending:
         return f"others have changed the workbench again and again for {seconds:g} seconds"
     keys = ", ".join(f"{kind} of {unit}" for kind, unit in pending[:5]) + (" and others" if len(pending) > 5 else "")
-    return f"no result for {seconds:g} seconds: {keys}; another session may have taken them and not delivered them"
+    return f"no result for {seconds:g} seconds: {keys}; another session may have taken them and not delivered them, or the server has no memory for them"

@@ -5,7 +5,8 @@ mod secret;
 
 use crate::secret::{HostSecret, RANDOMNESS, draw, wanted_secret};
 use fb_host::{
-    COMMIT_WAIT, FIRST_LINE_TIMEOUT, HostConfig, Identity, KEY_TIMEOUT, REPLY_TIMEOUT, host_on,
+    COMMIT_WAIT, EntranceConfig, FIRST_LINE_TIMEOUT, FIRST_LINES, HostConfig, Identity,
+    KEY_TIMEOUT, REPLY_TIMEOUT, host_on,
 };
 use fb_program::wire::{FromRead, IntoWrite};
 use fb_program::{
@@ -49,7 +50,11 @@ fn draw_config(rt: &HostRuntime, settings: &HostSettings<'_>) -> io::Result<Host
         sessions: settings.sessions,
         limits: settings.limits,
         memory: settings.memory,
-        first_line_timeout: FIRST_LINE_TIMEOUT,
+        entrance: EntranceConfig {
+            first_lines: FIRST_LINES,
+            first_line_timeout: FIRST_LINE_TIMEOUT,
+            challenge_key: draw(rt)?,
+        },
         idle_timeout: settings.idle.saturating_mul(MINUTE),
         reply_timeout: REPLY_TIMEOUT,
         commit_wait: COMMIT_WAIT,
@@ -59,7 +64,6 @@ fn draw_config(rt: &HostRuntime, settings: &HostSettings<'_>) -> io::Result<Host
             high: u64::from_le_bytes(high),
             low: u64::from_le_bytes(low),
         },
-        challenge_key: draw(rt)?,
     })
 }
 

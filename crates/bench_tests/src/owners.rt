@@ -28,26 +28,26 @@ type Owners = (usize, usize, usize);
 
 // Each step, and the owners after it.
 const STEPS: &[(Step, Owners)] = &[
-    // the library has the source, and it and the record have the text
-    (Step::Commit, (2, 3, 0)),
+    // the library has the source, and its text has two owners, it and the record
+    (Step::Commit, (2, 2, 0)),
     // for its faults: the job has the source, and then the entry has the value
-    (Step::Take, (3, 3, 0)),
-    (Step::Run, (3, 3, 1)),
-    (Step::Deliver, (3, 3, 2)),
+    (Step::Take, (3, 2, 0)),
+    (Step::Run, (3, 2, 1)),
+    (Step::Deliver, (3, 2, 2)),
     // for the faults of the second, which reads the first too
-    (Step::Take, (4, 3, 2)),
-    (Step::Run, (4, 3, 1)),
-    (Step::Deliver, (4, 3, 2)),
+    (Step::Take, (4, 2, 2)),
+    (Step::Run, (4, 2, 1)),
+    (Step::Deliver, (4, 2, 2)),
     // for its net
-    (Step::Take, (5, 3, 2)),
-    (Step::Run, (5, 3, 1)),
-    (Step::Deliver, (5, 3, 2)),
+    (Step::Take, (5, 2, 2)),
+    (Step::Run, (5, 2, 1)),
+    (Step::Deliver, (5, 2, 2)),
     // the answer and the record have the value
-    (Step::Ask, (5, 3, 4)),
+    (Step::Ask, (5, 2, 4)),
     // for the net of the second: the job has both
-    (Step::Take, (6, 3, 5)),
-    (Step::GiveBack, (6, 3, 5)),
-    (Step::CommitAgain, (6, 3, 5)),
+    (Step::Take, (6, 2, 5)),
+    (Step::GiveBack, (6, 2, 5)),
+    (Step::CommitAgain, (6, 2, 5)),
 ];
 
 /// A workbench, two changes with the sources of their units, and all that it has handed out.

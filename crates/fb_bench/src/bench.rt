@@ -30,6 +30,8 @@ pub struct Bench {
     commits: u64,
     entries: Entries,
     index: Index,
+    // how many keys the last commit that was done has reached
+    reached: u64,
 }
 
 impl Drop for Bench {
@@ -41,6 +43,7 @@ impl Drop for Bench {
             commits: _,
             entries: _,
             index: _,
+            reached: _,
         } = self;
     }
 }
@@ -80,6 +83,7 @@ impl Bench {
             commits: 0,
             entries: Entries::new(alloc),
             index: Index::new(alloc),
+            reached: 0,
         }
     }
 
@@ -162,6 +166,12 @@ impl Bench {
         ensures { result.now.entries ≡ pages_after self.now.origin.pages self.now.log.records }
     {
         self.history.pages()
+    }
+
+    /// How many keys the last commit that was done has marked as pending, those that were pending already included; 0 before the first. No answer depends on
+    /// it: a server keeps the pace of its sessions by it.
+    pub fn reached(&self) -> u64 {
+        self.reached
     }
 
     /// How many keys the present texts have.
@@ -448,6 +458,7 @@ impl Bench {
                     call,
                     stored,
                 )?;
+                self.reached = found.renewal.renewed.len() as u64;
                 self.index = self.entries.carry_out(found);
                 self.library = library;
                 self.commits = number;

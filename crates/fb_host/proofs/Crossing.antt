@@ -2,23 +2,13 @@
 use denote.Param.Send.{IsSend, IsSync, sendable}
 use Rattle.std.proofs.Crossing.{crosses}
 use Rattle.fb_shared.proofs.Crossing.{receipt_send, shared_field_sync}
+use Rattle.fb_admission.proofs.Crossing.{entrance_field_sync}
 use Rattle.fb_serve.specs.contracts.caller_state.Held as Held
-use Rattle.fb_wire.specs.contracts.run_error.RunError as RunError
 use Rattle.fb_host.specs.contracts.leases.Lease as Lease
 use Rattle.fb_host.specs.contracts.leases.LeaseState as LeaseState
 use Rattle.fb_host.specs.contracts.leases.Leases as Leases
-use Rattle.fb_host.specs.contracts.notices.Counts as Counts
-use Rattle.fb_host.specs.contracts.notices.Notice as Notice
-use Rattle.fb_host.specs.contracts.notices.NoticeState as NoticeState
-use Rattle.fb_host.specs.contracts.notices.Notices as Notices
-use Rattle.fb_host.specs.contracts.waiting_room.Waiting as Waiting
-use Rattle.fb_host.specs.contracts.waiting_room.WaitingState as WaitingState
-use Rattle.fb_host.specs.contracts.waiting_room.WaitingRoom as WaitingRoom
 use Rattle.fb_host.specs.contracts.receipt_store.EpochReceipts as EpochReceipts
 use Rattle.fb_host.specs.contracts.receipt_store.ReceiptStore as ReceiptStore
-use Rattle.fb_host.specs.contracts.connection.Connection as Connection
-use Rattle.fb_host.specs.contracts.connection_queue.QueueState as QueueState
-use Rattle.fb_host.specs.contracts.connection_queue.ConnectionQueue as ConnectionQueue
 use Rattle.fb_host.specs.contracts.pace.RecentCommits as RecentCommits
 use Rattle.fb_host.specs.contracts.pace.CommitTable as CommitTable
 use Rattle.fb_host.specs.contracts.pace.LastRelease as LastRelease
@@ -34,21 +24,6 @@ epoch_receipts_send = search (epoch_receipts_field_send, crosses, sendable) dept
 
 receipt_store_field_sync : IsSync (ReceiptStore.the_field).row
 receipt_store_field_sync = search (epoch_receipts_send, crosses, sendable) depth 60 fits 20000
-
-connection_field_send : IsSend (Connection.the_field).row
-connection_field_send = search (crosses, sendable) depth 60 fits 20000
-
-connection_send : IsSend Connection.the_row
-connection_send = search (connection_field_send, crosses, sendable) depth 60 fits 20000
-
-queue_state_field_send : IsSend (QueueState.the_field).row
-queue_state_field_send = search (connection_send, crosses, sendable) depth 60 fits 20000
-
-queue_state_send : IsSend QueueState.the_row
-queue_state_send = search (queue_state_field_send, crosses, sendable) depth 60 fits 20000
-
-queue_field_sync : IsSync (ConnectionQueue.the_field).row
-queue_field_sync = search (queue_state_send, crosses, sendable) depth 60 fits 20000
 
 held_field_send : IsSend (Held.the_field).row
 held_field_send = search (crosses, sendable) depth 60 fits 20000
@@ -70,45 +45,6 @@ lease_state_send = search (lease_state_field_send, crosses, sendable) depth 60 f
 
 leases_field_sync : IsSync (Leases.the_field).row
 leases_field_sync = search (lease_state_send, crosses, sendable) depth 60 fits 20000
-
-error_field_send : IsSend (RunError.the_field).row
-error_field_send = search (crosses, sendable) depth 60 fits 20000
-
-counts_field_send : IsSend (Counts.the_field).row
-counts_field_send = search (crosses, sendable) depth 60 fits 20000
-
-counts_send : IsSend Counts.the_row
-counts_send = search (counts_field_send, crosses, sendable) depth 60 fits 20000
-
-notice_field_send : IsSend (Notice.the_field).row
-notice_field_send = search (error_field_send, counts_send, crosses, sendable) depth 60 fits 20000
-
-notice_send : IsSend Notice.the_row
-notice_send = search (notice_field_send, crosses, sendable) depth 60 fits 20000
-
-notice_state_field_send : IsSend (NoticeState.the_field).row
-notice_state_field_send = search (notice_send, counts_send, crosses, sendable) depth 60 fits 20000
-
-notice_state_send : IsSend NoticeState.the_row
-notice_state_send = search (notice_state_field_send, crosses, sendable) depth 60 fits 20000
-
-notices_field_sync : IsSync (Notices.the_field).row
-notices_field_sync = search (notice_state_send, crosses, sendable) depth 60 fits 20000
-
-waiting_field_send : IsSend (Waiting.the_field).row
-waiting_field_send = search (crosses, sendable) depth 60 fits 20000
-
-waiting_send : IsSend Waiting.the_row
-waiting_send = search (waiting_field_send, crosses, sendable) depth 60 fits 20000
-
-waiting_state_field_send : IsSend (WaitingState.the_field).row
-waiting_state_field_send = search (waiting_send, crosses, sendable) depth 60 fits 20000
-
-waiting_state_send : IsSend WaitingState.the_row
-waiting_state_send = search (waiting_state_field_send, crosses, sendable) depth 60 fits 20000
-
-waiting_field_sync : IsSync (WaitingRoom.the_field).row
-waiting_field_sync = search (waiting_state_send, crosses, sendable) depth 60 fits 20000
 
 recent_commits_field_send : IsSend (RecentCommits.the_field).row
 recent_commits_field_send = search (crosses, sendable) depth 60 fits 20000
@@ -135,7 +71,7 @@ config_field_sync : IsSync (HostConfig.the_field).row
 config_field_sync = search (crosses, sendable) depth 60 fits 20000
 
 host_state_field_sync : IsSync (HostState.the_field).row
-host_state_field_sync = search (shared_field_sync, receipt_store_field_sync, leases_field_sync, notices_field_sync, waiting_field_sync, queue_field_sync, pace_field_sync, config_field_sync, crosses, sendable) depth 60 fits 20000
+host_state_field_sync = search (shared_field_sync, receipt_store_field_sync, leases_field_sync, entrance_field_sync, pace_field_sync, config_field_sync, crosses, sendable) depth 60 fits 20000
 
 pub host_state_sync : IsSync HostState.the_row
 host_state_sync = search (host_state_field_sync, crosses, sendable) depth 60 fits 20000

@@ -1,4 +1,3 @@
 pub mod Crossing
-pub mod FirstLines
 pub mod SessionLemmas
 pub mod Shorts

@@ -1,5 +1,4 @@
 pub mod HostSessions
-pub mod Heads
 pub mod Leases
 pub mod Pace
 pub mod Replies

@@ -4,13 +4,11 @@ ghost use Rattle.fb_locked.specs.Book.{IsBookOf};
 ghost use Rattle.fb_serve.specs.{Lines.{SaysLines}, Shown.{ShowsAll}};
 
 use crate::close::close;
-use crate::connection_queue::ConnectionQueue;
 use crate::leases::Leases;
-use crate::notices::Notices;
 use crate::pace::Pace;
 use crate::receipt_store::ReceiptStore;
-use crate::threads::{ADMISSION_THREADS, HostState, Seats, run_threads};
-use crate::waiting_room::WaitingRoom;
+use crate::threads::{HostState, Seats, run_threads};
+use fb_admission::{ConnectionQueue, Entrance, EntranceConfig, Notices};
 use fb_serve::{Ended, NotServed, Served, greet};
 use fb_shared::Shared;
 use fb_shared::bench::Identity;
@@ -22,9 +20,6 @@ use std::net::TcpListener;
 use std::sync::{Mutex, Wait};
 use std::thread::Threads;
 use std::time::Clock;
-
-/// How many milliseconds a connection may take to send its first line.
-pub const FIRST_LINE_TIMEOUT: u64 = 10_000;
 
 /// How many milliseconds one reply may take.
 pub const REPLY_TIMEOUT: u64 = 600_000;
@@ -43,8 +38,8 @@ pub struct HostConfig {
     pub limits: Limits,
     /// How many bytes of texts commits may put in an epoch, before the next one begins.
     pub memory: u64,
-    /// How many milliseconds a connection may take to send its first line.
-    pub first_line_timeout: u64,
+    /// How connections come in.
+    pub entrance: EntranceConfig,
     /// How many milliseconds a session may be silent, or 0 if it may be so forever.
     pub idle_timeout: u64,
     /// How many milliseconds one reply may take.
@@ -57,8 +52,6 @@ pub struct HostConfig {
     pub connections: u64,
     /// The identity of the workbench, by which a client notices that the host was started again.
     pub workbench: Identity,
-    /// The key of the challenges, which nobody else knows: each is the code of its number, so none comes twice and none takes a descriptor.
-    pub challenge_key: [u8; 32],
 }
 
 /// Gives each connection a free seat, if its first line proves the secret, or if no secret is set and it begins with a request, with workers beside the sessions.
@@ -107,10 +100,11 @@ fn host_sessions<R: Threads + Wait + Clock + Sync, E: Write + Send>(
         receipts: ReceiptStore::new(alloc),
         leases: Leases::new(alloc, config.key_timeout),
         pace,
-        notices: Notices::new(alloc),
-        waiting: WaitingRoom::new(alloc),
-        admission: ConnectionQueue::new(alloc, ADMISSION_THREADS, u64::MAX),
-        seats: ConnectionQueue::new(alloc, u64::from(config.sessions), config.connections),
+        entrance: Entrance {
+            seats: ConnectionQueue::new(alloc, u64::from(config.sessions), config.connections),
+            notices: Notices::new(alloc),
+            config: config.entrance,
+        },
         config,
     };
     let results = run_threads(rt, alloc, listener, &host, secret, errors, seats);
@@ -119,10 +113,7 @@ fn host_sessions<R: Threads + Wait + Clock + Sync, E: Write + Send>(
         receipts,
         leases: _,
         pace: _,
-        notices: _,
-        waiting: _,
-        admission: _,
-        seats: _,
+        entrance: _,
         config: _,
     } = host;
     close(rt, alloc, shared, receipts, results)

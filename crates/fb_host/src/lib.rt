@@ -1,17 +1,11 @@
 //! A server that stays: sessions over TCP come and go, each with a free seat of one shared workbench, whose history begins again once it is full.
 #![tactic(auto)]
 
-mod accepting;
-mod admission;
 mod close;
-mod connection;
-mod connection_queue;
-mod head;
 mod hosting;
 mod keeper;
 mod laws;
 mod leases;
-mod notices;
 mod pace;
 mod receipt_store;
 mod reply_writer;
@@ -19,13 +13,10 @@ mod session;
 mod session_desk;
 mod session_receipts;
 mod threads;
-mod waiting_room;
 
+pub use fb_admission::{EntranceConfig, FIRST_LINE_TIMEOUT, FIRST_LINES};
 pub use fb_shared::bench::Identity;
-pub use head::{begins_request, take_proof};
-pub use hosting::{
-    COMMIT_WAIT, FIRST_LINE_TIMEOUT, HostConfig, KEY_TIMEOUT, REPLY_TIMEOUT, host_on,
-};
+pub use hosting::{COMMIT_WAIT, HostConfig, KEY_TIMEOUT, REPLY_TIMEOUT, host_on};
 pub use laws::reads_go_on;
 pub use leases::Leases;
 pub use pace::Pace;

@@ -1,6 +1,6 @@
 //! The pace of sessions: a seat that commits faster than the workers settle keys waits for them, and a key that a session lets go is the workers' first.
 ghost use Rattle.std.specs.Prelude.{◌≡◌, ◌≢◌, ◌+◌, ◌==◌, ◌↔◌, IfOk, IsTrue, Some, if◌then◌else◌, min, replicate, slice_get};
-ghost use Rattle.fb_host.specs.Pace.{IsCounted, MayCommit, no_commits, with_one_more};
+ghost use Rattle.fb_host.specs.Pace.{HasReached, IsAdmitted, MayCommit, no_commits, since, with_reached};
 
 use fb_locked::bench::Request;
 use fb_shared::Shared;
@@ -18,34 +18,44 @@ const CLOSING: u64 = 100;
 /// For how many milliseconds a `take` waits at most for the workers, who may have long jobs.
 const TAKING: u64 = 1_000;
 
-/// How many commits a seat makes at most between two rests.
-const AHEAD: u64 = 8;
+/// A seat whose commits have reached this number of keys since a rest waits for the next one.
+const KEYS_AHEAD: u64 = 256;
 
-/// The commits of a seat since a rest: how many rests were counted then, and how many commits it has made since.
+/// The commits of a seat since a rest: how many rests were counted then, and how many keys they have reached, counted to 256.
 #[derive(Clone, Copy)]
 struct RecentCommits {
     rests: u64,
-    count: u64,
+    reached: u64,
 }
 
 impl RecentCommits {
-    const NONE: RecentCommits = RecentCommits { rests: 0, count: 0 };
+    const NONE: RecentCommits = RecentCommits {
+        rests: 0,
+        reached: 0,
+    };
 
     /// Whether the seat may commit, now that this number of rests was counted.
     fn may_commit(self, rests: u64) -> bool
         ensures { IsTrue result ↔ MayCommit self rests }
     {
-        self.rests != rests || self.count < AHEAD
+        self.rests != rests || self.reached < KEYS_AHEAD
     }
 
-    /// With one more commit.
-    fn then(self, rests: u64) -> RecentCommits
-        ensures { MayCommit self rests → result ≡ with_one_more self rests }
+    /// Those since the last rest, now that this number of rests was counted.
+    fn since(self, rests: u64) -> RecentCommits
+        ensures { result ≡ since self rests }
     {
-        let before = if self.rests == rests { self.count } else { 0 };
+        let reached = if self.rests == rests { self.reached } else { 0 };
+        RecentCommits { rests, reached }
+    }
+
+    /// With this number of keys that its last commit has reached.
+    fn with_reached(self, keys: u64) -> RecentCommits
+        ensures { result ≡ with_reached self keys }
+    {
         RecentCommits {
-            rests,
-            count: before.saturating_add(1),
+            rests: self.rests,
+            reached: self.reached.saturating_add(keys).min(KEYS_AHEAD),
         }
     }
 }
@@ -66,9 +76,9 @@ impl CommitTable {
         Ok(CommitTable { seats })
     }
 
-    /// Counts a commit of this caller, if it may commit now that this number of rests was counted. Whether it may.
-    fn count(&mut self, caller: u32, rests: u64) -> bool
-        ensures { IsCounted (slice_get self.old.seats.items caller) self.old.seats.items
+    /// Whether this caller may commit, now that this number of rests was counted. If it may, what its commits reached before the last rest counts no longer.
+    fn admit(&mut self, caller: u32, rests: u64) -> bool
+        ensures { IsAdmitted (slice_get self.old.seats.items caller) self.old.seats.items
             caller rests result self.new.seats.items }
     {
         let place = caller as usize;
@@ -78,8 +88,19 @@ impl CommitTable {
         if !recent.may_commit(rests) {
             return false;
         }
-        self.seats[place] = recent.then(rests);
+        self.seats[place] = recent.since(rests);
         true
+    }
+
+    /// Counts the keys that a commit of this caller has reached.
+    fn add_reached(&mut self, caller: u32, keys: u64)
+        ensures { HasReached (slice_get self.old.seats.items caller) self.old.seats.items
+            caller keys self.new.seats.items }
+    {
+        let place = caller as usize;
+        if let Some(recent) = self.seats.get(place).copied() {
+            self.seats[place] = recent.with_reached(keys);
+        }
     }
 }
 
@@ -111,6 +132,24 @@ impl Turn<'_> {
         if lets_go {
             last.rests = Some(shared.rests());
         }
+    }
+}
+
+/// A count of the keys that a commit reaches: those that all commits had reached before it.
+#[derive(Drop)]
+pub(crate) struct Counting<'a> {
+    commits: MutexGuard<'a, CommitTable>,
+    before: u64,
+}
+
+impl Counting<'_> {
+    /// Ends, after the commit of this caller.
+    pub(crate) fn end(self, shared: &Shared, caller: u32) {
+        let Self {
+            mut commits,
+            before,
+        } = self;
+        commits.add_reached(caller, shared.reached().saturating_sub(before));
     }
 }
 
@@ -194,7 +233,7 @@ impl Pace {
         }
     }
 
-    /// Whether a caller may make a call with this turn now. A commit that it may make is counted.
+    /// Whether a caller may make a call with this turn now.
     fn may_call<R: Wait>(
         &self,
         rt: &R,
@@ -204,9 +243,26 @@ impl Pace {
         turn: &Option<Turn<'_>>,
     ) -> bool {
         match (request, turn) {
-            (Request::Commit(_), _) => self.commits.lock(rt).count(caller, shared.rests()),
+            (Request::Commit(_), _) => self.commits.lock(rt).admit(caller, shared.rests()),
             (Request::Take, Some(turn)) => turn.last.may_take(shared.rests()),
             _ => true,
+        }
+    }
+
+    /// Begins to count the keys that a commit reaches. Until that ends no other session commits, so its keys are counted for nobody else.
+    pub(crate) fn begin_count<R: Wait>(
+        &self,
+        rt: &R,
+        shared: &Shared,
+        request: &Request<'_>,
+    ) -> Option<Counting<'_>> {
+        match request {
+            Request::Commit(_) => {
+                let commits = self.commits.lock(rt);
+                let before = shared.reached();
+                Some(Counting { commits, before })
+            }
+            Request::Take | Request::Deliver(_) | Request::GiveBack(_) | Request::Ask(_) => None,
         }
     }
 

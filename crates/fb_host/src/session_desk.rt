@@ -95,6 +95,7 @@ impl<R: Wait + Clock> Desk for SessionDesk<'_, R> {
     fn perform(&mut self, request: &Request<'_>) -> Result<Answered, DeskError> {
         let (rt, shared, caller) = (self.seated.rt, self.shared, self.seated.seat.caller());
         let turn = self.pace.await_turn(rt, shared, caller, request);
+        let counting = self.pace.begin_count(rt, shared, request);
         if self.held.reserve(1).is_err() {
             let is_behind = self.shared.is_behind(self.seated.rt, &self.seated.seat);
             return Err(if is_behind {
@@ -105,6 +106,9 @@ impl<R: Wait + Clock> Desk for SessionDesk<'_, R> {
         }
         match self.seated.perform(request) {
             Ok(answer) => {
+                if let Some(counting) = counting {
+                    counting.end(shared, caller);
+                }
                 match self.seated.receipts.last() {
                     Some(receipt) => {
                         self.session_receipts = self.session_receipts.then(receipt);

@@ -1,21 +1,16 @@
-//! The threads of a host: admission, sessions, workers, the keeper of keys, and those that print and wake watchers.
+//! The threads of a host: sessions, workers, the keeper of keys, those that print and wake watchers, and admission in the one that starts them.
 ghost use Rattle.std.specs.Prelude.{◌≡◌, ◌≢◌, IsTrue};
 ghost use Rattle.fb_locked.specs.declared.look.WorkEnd.TheVariants as ends;
 ghost use Rattle.fb_host.specs.HostSessions.{LeadsTo};
 
-use crate::accepting::accept_connections;
-use crate::admission::admit_connections;
-use crate::connection::{Connection, ConnectionReader};
-use crate::connection_queue::ConnectionQueue;
 use crate::hosting::HostConfig;
 use crate::keeper::keep_keys;
 use crate::leases::Leases;
-use crate::notices::{Notice, Notices, print_notices};
 use crate::pace::Pace;
 use crate::receipt_store::ReceiptStore;
 use crate::reply_writer::ReplyWriter;
 use crate::session::{SessionResult, give_back_all, run_host_session};
-use crate::waiting_room::WaitingRoom;
+use fb_admission::{Admission, Connection, ConnectionReader, Entrance, Notice, print_notices};
 use fb_serve::{CallerState, TURNS, keep_working, pause};
 use fb_shared::{Seat, Shared, WorkEnd};
 use fb_wire::{FromRead, IntoWrite, RunEnd, error_of};
@@ -30,19 +25,13 @@ use std::time::{Clock, Duration};
 /// How many looks a worker makes before its receipts go to the store.
 const BATCH: u64 = 64;
 
-/// How many first lines are read at once.
-pub(crate) const ADMISSION_THREADS: u64 = 32;
-
 /// What the threads of a host share.
 pub(crate) struct HostState {
     pub(crate) shared: Shared,
     pub(crate) receipts: ReceiptStore,
     pub(crate) leases: Leases,
     pub(crate) pace: Pace,
-    pub(crate) notices: Notices,
-    pub(crate) waiting: WaitingRoom,
-    pub(crate) admission: ConnectionQueue,
-    pub(crate) seats: ConnectionQueue,
+    pub(crate) entrance: Entrance,
     pub(crate) config: HostConfig,
 }
 
@@ -153,39 +142,25 @@ pub(crate) fn run_threads<R: Threads + Wait + Clock + Sync, E: Write + Send>(
         let keeper = start_keeper(scope, rt, alloc, host, keeper);
         let workers = start_workers(scope, rt, alloc, host, workers);
         let sessions = start_sessions(scope, rt, alloc, host, sessions);
-        let admission = start_admission(scope, rt, alloc, host, secret);
         let has_threads = printer.is_some() && waker.is_some() && keeper.is_some();
-        let has_all = has_threads && admission.is_whole;
-        let is_whole = has_all && workers.is_whole && sessions.is_whole;
+        let is_whole = has_threads && workers.is_whole && sessions.is_whole;
+        let mut admission = Admission::new(rt, alloc, &host.entrance, secret);
         if is_whole {
-            accept_connections(rt, alloc, listener, host);
+            admission.admit(listener);
         }
-        end_admission(rt, host, admission);
+        host.shared.end_watches(rt);
+        admission.end();
+        host.entrance.seats.close(rt);
         let mut results = Results::new(alloc, is_whole);
         results.add_all(rt, host, sessions);
         results.add_keeper(rt, host, keeper);
         host.shared.stop(rt);
         results.add_all(rt, host, workers);
         join_started(rt, waker);
-        end_printer(rt, host, printer);
+        host.entrance.notices.close(rt);
+        join_started(rt, printer);
         results
     })
-}
-
-/// Lets nobody in any more, and ends what those who watch wait for.
-fn end_admission<R: Threads + Wait>(rt: &R, host: &HostState, admission: Started<()>) {
-    host.admission.close(rt);
-    host.shared.end_watches(rt);
-    for thread in admission.threads {
-        thread.join(rt);
-    }
-    host.seats.close(rt);
-}
-
-/// Waits until all lines are printed.
-fn end_printer<R: Threads + Wait>(rt: &R, host: &HostState, printer: Option<JoinHandle<()>>) {
-    host.notices.close(rt);
-    join_started(rt, printer);
 }
 
 /// Waits until a thread has ended, if it was started.
@@ -203,7 +178,7 @@ fn start_printer<'s, Env, R: Threads + Wait + Clock + Sync, E: Write + Send>(
     errors: &'s Mutex<E>,
 ) -> Option<JoinHandle<()>> {
     scope
-        .spawn(move || print_notices(rt, &host.notices, errors))
+        .spawn(move || print_notices(rt, &host.entrance.notices, errors))
         .ok()
 }
 
@@ -279,31 +254,6 @@ fn start_sessions<'s, Env, R: Threads + Wait + Clock + Sync>(
     Started { threads, is_whole }
 }
 
-fn start_admission<'s, Env, R: Threads + Wait + Clock + Sync>(
-    scope: &Scope<'s, Env>,
-    rt: &'s R,
-    alloc: Global,
-    host: &'s HostState,
-    secret: &'s [u8],
-) -> Started<()> {
-    let mut threads = Vec::new(alloc);
-    let mut is_whole = true;
-    for _ in 0..ADMISSION_THREADS {
-        if threads.reserve(1).is_err() {
-            is_whole = false;
-            break;
-        }
-        match scope.spawn(move || admit_connections(rt, alloc, host, secret)) {
-            Ok(thread) => threads.push_reserved(thread),
-            Err(_) => {
-                is_whole = false;
-                break;
-            }
-        }
-    }
-    Started { threads, is_whole }
-}
-
 /// A worker's thread, and why it ends. Its receipts go to the store now and then.
 #[tactic(auto, using(crate::proofs::SessionLemmas::leads))]
 fn run_worker<R: Wait + Clock>(
@@ -346,7 +296,7 @@ fn run_sessions<R: Wait + Clock>(
     let caller = state.seat.caller();
     let mut state = state;
     for _ in rt.forever() {
-        let Some(connection) = host.seats.next(rt) else {
+        let Some(connection) = host.entrance.seats.next(rt) else {
             return state;
         };
         let (left, notice) = serve_connection(rt, alloc, host, state, &connection);
@@ -355,9 +305,9 @@ fn run_sessions<R: Wait + Clock>(
         if state.held.is_empty() {
             host.leases.end(rt, caller);
         }
-        host.seats.add_idle(rt);
+        host.entrance.seats.add_idle(rt);
         if let Some(notice) = notice {
-            host.notices.add(rt, notice);
+            host.entrance.notices.add(rt, notice);
         }
     }
     // `forever` never ends.

@@ -1,7 +1,7 @@
--- What is read of texts, and what is read again under the names of earlier reads.
-use Rattle.std.specs.{Prelude.{◌≡◌, ℕ, List, All}, List.{AllZip}}
+-- What is read of texts.
+use Rattle.std.specs.Prelude.{◌≡◌, ℕ, List, All}
 use Rattle.fb_deploy.specs.Library.Texts.{Texts}
-use Rattle.fb_jobs.specs.{declared.keys.key.Key.{Key}, declared.keys.read.Read.{Read}, Reuse.{MentionsTheSame}, Reads.{Seen, read_names, reads_under}}
+use Rattle.fb_jobs.specs.{declared.keys.key.Key.{Key}, declared.keys.read.Read.{Read}, Reads.{Seen, reads_under}}
 use Rattle.fb_jobs.specs.{Keys.{needs}, Values.{all_seen, IsOwn}}
 
 -- under these names it is read of the library, each source is of the name that it was read under, and these are the texts
@@ -13,8 +13,3 @@ pub record AreReadUnder (library : Texts) (names : List (List ℕ)) (reads : Lis
 -- what the key needs is read of the library
 abbrev pub AreReads : Texts → Key → List Read → List Seen → Type 0
 AreReads library key reads texts = AreReadUnder library (needs library key) reads texts
-
--- it is read under the names of earlier reads, and each text mentions what the earlier one mentioned
-pub record AreReadAgain (library : Texts) (before : List Seen) (reads : List Read) (texts : List Seen) : Type 0 where
-  pub read : AreReadUnder library (read_names before) reads texts
-  pub mentions : AllZip MentionsTheSame before (all_seen reads)

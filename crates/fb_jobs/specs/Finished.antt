@@ -21,8 +21,9 @@ pub record IsFinished (it : PlainJob) (work : Worked) : Type 0 where
   pub value_is : finding_of work.value.value ≡ value_of it
   pub found_are : All (IsFoundFor (read_texts it.reads) it.key) work.found.items
 
--- the value is that of what was read, from scratch, it is known of it whether it has faults, and if what was read is kept too, it is that
+-- the reads are right for the key, the value is that of what was read, from scratch, it is known of it whether it has faults, and if what was read is kept too, it is that
 pub record IsDerivation (it : PlainJob) (value : Value) (has_faults : Option Bool) (inputs : Option (Arc PlainJob Global)) : Type 0 where
+  pub right : IsRight it
   pub value_is : finding_of value ≡ value_of it
   pub faults_are : has_faults ≡ some_faults (Some (finding_of value))
   pub inputs_are : IfSome inputs (λ kept. kept.value ≡ it)

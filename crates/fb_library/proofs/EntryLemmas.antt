@@ -11,7 +11,7 @@ module _ {A B : Type 0} (f : A → B) where
   pub map_insert : (xs : List A) (i : ℕ) (x : A) → map f (insert xs i x) ≡ insert (map f xs) i (f x)
   map_insert xs i x = rw (map-append f (take i xs) (x ∷ drop i xs), take-map f i xs, drop-map f i xs)
 
-  map_remove : (xs : List A) (i : ℕ) → map f (remove xs i) ≡ remove (map f xs) i
+  pub map_remove : (xs : List A) (i : ℕ) → map f (remove xs i) ≡ remove (map f xs) i
   map_remove xs i = rw (map-append f (take i xs) (drop (suc i) xs), take-map f i xs, drop-map f (suc i) xs)
 
 module _ {V : Type 0} where

@@ -1,13 +1,13 @@
 -- Items that are kept, each of which reads as a shelf.
 use Rattle.std.proofs.Common.{◌≡◌, ℕ, suc, ◌+◌, ◌<◌, ◌≤◌, true, List, [], ◌∷◌, ◌++◌, length, map, take, drop, get_or, set, sym, ap, subst, ◌∙◌, arith, Ok, Err}
 use Rattle.std.proofs.{lemmas.List.{map-set, get_or-map, map_push, length-map}, lemmas.List.Edits.{get_or-insert_above}, lemmas.Simd.{map-map}}
-use Rattle.std.specs.{List.{AllByRecursion, insert}, List.Sorted.{IsStrictlySortedBy, IsBinarySearchResult}, Map.{remove_entry}, BTreeMap.{is_at, insert_entry}, Ordering.{is_le}}
+use Rattle.std.specs.{List.{AllByRecursion, insert, remove}, List.Sorted.{IsStrictlySortedBy, IsBinarySearchResult}, Map.{remove_entry}, BTreeMap.{is_at, insert_entry}, Ordering.{is_le}}
 use Rattle.std.specs.declared.cmp.Ordering.TheVariants.{Less}
 use Rattle.fb_parse.specs.Text.Order.{name_cmp}
 use Rattle.fb_library.specs.Shelves.{names_of, lasts_of, all_on, AreShelves, IsShelfFor, reaches}
-use Rattle.fb_library.proofs.EntryLemmas.{map_insert}
+use Rattle.fb_library.proofs.EntryLemmas.{map_insert, map_remove}
 use Rattle.fb_library.proofs.OnShelves.{Row, last_at, entries_at, with_entries, for_at, for_gap, for_next, for_reached, reached_for, passed, lasts_sorted, put_on, remove_on, shelves_put, shelves_removed}
-use Rattle.fb_library.proofs.Wider.{ended_at, all_ended, reaches_ended, shelves_ended, one_more, all_more, reaches_more, shelves_more, IsExtended, IsWider, in_two, all_in_two, reaches_in_two, shelves_in_two}
+use Rattle.fb_library.proofs.Wider.{ended_at, all_ended, reaches_ended, shelves_ended, one_more, all_more, reaches_more, shelves_more, IsExtended, IsWider, in_two, all_in_two, reaches_in_two, shelves_in_two, all_without, shelves_without}
 use Rattle.fb_library.proofs.Searches.{searched}
 
 module _ {A V : Type 0} (row : A → Row V) where
@@ -70,6 +70,17 @@ module _ {A V : Type 0} (row : A → Row V) where
 
     pub entries_removed : (row now).1 ≡ remove_entry (is_at (name_cmp n)) (row old).1 → all_on (map row (set xs i now)) ≡ remove_entry (is_at (name_cmp n)) (all_on (map row xs))
     entries_removed gone = ap all_on (rows_edited (remove_entry (is_at (name_cmp n))) gone) ∙ remove_on (map row xs) n i (omega (arith, lt, length-map xs row)) are is
+
+  -- the item at that place has no entries, and is taken out
+  module _ (xs : List A) (i : ℕ) (here : A) (lt : i < length xs) (stood : here ≡ get_or xs i here) (empty : (row here).1 ≡ []) where
+    nothing_there : entries_at (map row xs) i ≡ []
+    nothing_there = (λ j. (row_there xs i here lt stood j).1) ∙ empty
+
+    pub shelf_cleared : AreShelves (map row xs) → AreShelves (map row (remove xs i))
+    shelf_cleared are = subst AreShelves (sym (map_remove row xs i)) (shelves_without (map row xs) i nothing_there are)
+
+    pub entries_cleared : all_on (map row (remove xs i)) ≡ all_on (map row xs)
+    entries_cleared = ap all_on (map_remove row xs i) ∙ all_without (map row xs) i nothing_there
 
   -- ---- room for a name
 

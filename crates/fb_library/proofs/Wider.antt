@@ -2,7 +2,7 @@
 use Rattle.std.proofs.Common.{◌≡◌, ℕ, zero, suc, ◌<◌, true, false, ◌||◌, List, [], ◌∷◌, ◌++◌, length, take, drop, get_or, set, refl, sym, ap, ◌∙◌, arith, append_assoc}
 use Rattle.std.proofs.{lemmas.Bool.{or_left, or_right}, lemmas.List.{take-append-drop, length-map}, lemmas.List.Elements.{All-from_recursion, All-get_or}}
 use Rattle.std.proofs.lemmas.Map.Keys.{Less-from_sorted}
-use Rattle.std.specs.{List.{AllByRecursion, insert}, List.Sorted.{IsStrictlySortedBy}, Ordering.{is_le}, declared.cmp.Ordering.TheVariants.{Less}}
+use Rattle.std.specs.{List.{AllByRecursion, insert, remove}, List.Sorted.{IsStrictlySortedBy}, Ordering.{is_le}, declared.cmp.Ordering.TheVariants.{Less}}
 use Rattle.fb_parse.specs.Text.Order.{name_cmp}
 use Rattle.fb_parse.proofs.Text.Tests.{or_cases}
 use Rattle.fb_library.specs.Shelves.{names_of, lasts_of, all_on, AreShelves, reaches}
@@ -171,4 +171,27 @@ module _ {V : Type 0} where
     shelf_before are.0 (rw (all_in_two ss i k (omega (arith, lt))) are.0.before)
         (rising_in_two (λ m. name_cmp s.0 m ≡ Less) ss i k (omega (arith, lt)) (omega (arith, some)) are.0.rising are.0.before),
     shelves_in_two ss i k (omega (arith, lt)) some are.1,
+  )
+
+  -- ---- without a shelf that is empty
+
+  pub all_without : (ss : List (Row V)) (i : ℕ) → entries_at ss i ≡ [] → all_on (remove ss i) ≡ all_on ss
+  all_without [] zero e = refl
+  all_without [] (suc i) e = refl
+  all_without (s ∷ ss) zero e = ap (λ es. es ++ all_on ss) (sym e)
+  all_without (s ∷ ss) (suc i) e = ap (λ l. s.1 ++ l) (all_without ss i e)
+
+  lasts_without : (P : List ℕ → Type 0) (ss : List (Row V)) (i : ℕ) → AllByRecursion P (lasts_of ss) → AllByRecursion P (lasts_of (remove ss i))
+  lasts_without P [] zero all = tt
+  lasts_without P [] (suc i) all = tt
+  lasts_without P (s ∷ ss) zero all = all.1
+  lasts_without P (s ∷ ss) (suc i) all = (all.0, lasts_without P ss i all.1)
+
+  pub shelves_without : (ss : List (Row V)) (i : ℕ) → entries_at ss i ≡ [] → AreShelves ss → AreShelves (remove ss i)
+  shelves_without [] zero e are = tt
+  shelves_without [] (suc i) e are = tt
+  shelves_without (s ∷ ss) zero e are = are.1
+  shelves_without (s ∷ ss) (suc i) e are = (
+    shelf_before are.0 (rw (all_without ss i e) are.0.before) (lasts_without (λ m. name_cmp s.0 m ≡ Less) ss i are.0.rising),
+    shelves_without ss i e are.1,
   )

@@ -1,11 +1,11 @@
 -- A library's units as texts.
-use Rattle.std.specs.{Prelude.{◌≡◌, ℕ, List, Option, map, string_bytes}, List.{AllByRecursion}, Option.{option_map}}
+use Rattle.std.specs.{Prelude.{◌≡◌, ℕ, List, Option, map}, List.{AllByRecursion}, Option.{option_map}}
 use Rattle.fb_parse.specs.Source.{Written}
 use Rattle.fb_tree.specs.{Mentions.{unit_kind_of}, declared.kinds.UnitKind.{UnitKind}}
 use Rattle.fb_library.specs.{Texts.{Texts, FiledText}, View.{tree_of}, declared.filed.Version.{Version}}
 
 abbrev pub filed_text : Version → FiledText
-filed_text it = record { unit = it.unit; held = record { revision = it.revision; text = string_bytes it.text.value } }
+filed_text it = record { unit = it.unit; held = record { revision = it.revision; text = it.text.value } }
 
 -- the source has the same unit and text, and these are the same revision and the kind of what the text declares
 pub record IsFiled (source : Written) (number : ℕ) (kind : Option UnitKind) (it : FiledText) : Type 0 where

@@ -6,7 +6,7 @@ ghost use Rattle.fb_tree.specs.Mentions.{unit_kind_of};
 ghost use Rattle.fb_library.specs.{Filed.{filed_text}, View.{tree_in, tree_of}};
 
 use fb_parse::text::Name;
-use fb_parse::{Body, Source};
+use fb_parse::{Body, Source, TextWithMentions};
 use fb_tree::{UnitKind, kind};
 use std::alloc::{AllocError, Global};
 use std::marker::Model;
@@ -17,7 +17,7 @@ pub struct Version {
     pub unit: Name,
     /// The number of the commit.
     pub revision: u64,
-    pub text: Arc<String>,
+    pub text: Arc<TextWithMentions>,
 }
 
 impl Drop for Version {
@@ -85,7 +85,7 @@ impl Filed {
         }) }
     {
         let unit = source.unit();
-        let text = source.shared_text().clone()?;
+        let text = source.text_with_mentions().clone()?;
         let version = Version {
             unit,
             revision,

@@ -250,7 +250,21 @@ fn remove<V: Drop, E: Entries<V>>(
     entries.remove(name)?;
     let entries = Arc::new(alloc, entries)?;
     shelves[at].entries = entries;
+    clear_away(shelves, at);
     Ok(())
+}
+
+/// Takes a shelf out that has no entries: otherwise names that come and go would leave ever more of them.
+fn clear_away<V: Drop, E: Entries<V>>(shelves: &mut Vec<Shelf<E>>, at: usize)
+    requires at { at < length shelves.old.items }
+    requires order { AreShelves (shelves_of E.entries shelves.old.items) }
+    ensures order { AreShelves (shelves_of E.entries shelves.new.items) }
+    ensures same { entries_on E.entries shelves.new.items
+        ≡ entries_on E.entries shelves.old.items }
+{
+    if shelves[at].entries.len() == 0 {
+        let _ = shelves.remove(at);
+    }
 }
 
 /// Ensures that there is a shelf for the name, which is not full, and gives its index.

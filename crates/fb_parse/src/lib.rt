@@ -12,7 +12,7 @@ mod system;
 mod units;
 
 pub use body::{Body, one_body, one_tree};
-pub use source::{ReadFault, Source};
+pub use source::{ReadFault, Source, TextWithMentions};
 
 /// Of `fb_text`, for the crates above.
 pub mod text {

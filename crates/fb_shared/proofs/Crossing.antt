@@ -18,6 +18,7 @@ use Rattle.fb_tree.specs.contracts.declaration.TypeDeclaration as TypeDeclaratio
 use Rattle.fb_tree.specs.contracts.declaration.Decl as Decl
 use Rattle.fb_locked.specs.Parse.contracts.body.Body as Body
 use Rattle.fb_locked.specs.Parse.contracts.source.Source as Source
+use Rattle.fb_locked.specs.Parse.contracts.source.TextWithMentions as TextWithMentions
 use Rattle.fb_types.specs.Network.contracts.flat.Flat as Flat
 use Rattle.fb_types.specs.contracts.nets.Net as Net
 use Rattle.fb_locked.specs.Deploy.contracts.planning.Deploy as Deploy
@@ -30,6 +31,7 @@ use Rattle.fb_locked.specs.History.contracts.record.Record as Record
 use Rattle.fb_locked.specs.contracts.seat.Receipt as Receipt
 use Rattle.fb_locked.specs.contracts.seat.Seat as Seat
 use Rattle.fb_locked.specs.Library.contracts.filed.Filed as Filed
+use Rattle.fb_locked.specs.Library.contracts.filed.Version as Version
 use Rattle.fb_locked.specs.Library.contracts.library.Library as Library
 use Rattle.fb_locked.specs.Index.contracts.name_set.NameSet as NameSet
 use Rattle.fb_locked.specs.Index.contracts.users.Users as Users
@@ -120,11 +122,23 @@ body_field_send = search (decl_field_send, below) depth 60 fits 20000
 body_field_sync : IsSync (Body.the_field).row
 body_field_sync = search (decl_field_sync, below) depth 60 fits 20000
 
+text_field_send : IsSend (TextWithMentions.the_field).row
+text_field_send = search below depth 60 fits 20000
+
+text_field_sync : IsSync (TextWithMentions.the_field).row
+text_field_sync = search below depth 60 fits 20000
+
+version_field_send : IsSend (Version.the_field).row
+version_field_send = search (text_field_send, text_field_sync, below) depth 60 fits 20000
+
+version_field_sync : IsSync (Version.the_field).row
+version_field_sync = search (text_field_send, text_field_sync, below) depth 60 fits 20000
+
 source_field_send : IsSend (Source.the_field).row
-source_field_send = search (body_field_send, below) depth 60 fits 20000
+source_field_send = search (body_field_send, text_field_send, text_field_sync, below) depth 60 fits 20000
 
 source_field_sync : IsSync (Source.the_field).row
-source_field_sync = search (body_field_sync, below) depth 60 fits 20000
+source_field_sync = search (body_field_sync, text_field_send, text_field_sync, below) depth 60 fits 20000
 
 flat_field_send : IsSend (Flat.the_field).row
 flat_field_send = search below depth 60 fits 20000
@@ -157,25 +171,25 @@ read_field_sync : IsSync (Read.the_field).row
 read_field_sync = search (source_field_send, source_field_sync, below) depth 60 fits 20000
 
 inputs_field_send : IsSend (Inputs.the_field).row
-inputs_field_send = search (read_field_send, below) depth 60 fits 20000
+inputs_field_send = search (read_field_send, version_field_send, version_field_sync, below) depth 60 fits 20000
 
 inputs_field_sync : IsSync (Inputs.the_field).row
-inputs_field_sync = search (read_field_sync, below) depth 60 fits 20000
+inputs_field_sync = search (read_field_sync, version_field_send, version_field_sync, below) depth 60 fits 20000
 
 derivation_field_send : IsSend (Derivation.the_field).row
-derivation_field_send = search (value_field_send, value_field_sync, inputs_field_send, inputs_field_sync, below) depth 60 fits 20000
+derivation_field_send = search (value_field_send, value_field_sync, version_field_send, version_field_sync, inputs_field_send, inputs_field_sync, below) depth 60 fits 20000
 
 reply_field_send : IsSend (Reply.the_field).row
-reply_field_send = search (value_field_send, value_field_sync, below) depth 60 fits 20000
+reply_field_send = search (value_field_send, value_field_sync, version_field_send, version_field_sync, below) depth 60 fits 20000
 
 reply_field_sync : IsSync (Reply.the_field).row
-reply_field_sync = search (value_field_send, value_field_sync, below) depth 60 fits 20000
+reply_field_sync = search (value_field_send, value_field_sync, version_field_send, version_field_sync, below) depth 60 fits 20000
 
 record_field_send : IsSend (Record.the_field).row
-record_field_send = search (reply_field_send, below) depth 60 fits 20000
+record_field_send = search (reply_field_send, version_field_send, version_field_sync, below) depth 60 fits 20000
 
 record_field_sync : IsSync (Record.the_field).row
-record_field_sync = search (reply_field_sync, below) depth 60 fits 20000
+record_field_sync = search (reply_field_sync, version_field_send, version_field_sync, below) depth 60 fits 20000
 
 receipt_field_send : IsSend (Receipt.the_field).row
 receipt_field_send = search (record_field_send, record_field_sync, below) depth 60 fits 20000
@@ -187,10 +201,10 @@ pub seat_send : IsSend Seat.the_row
 seat_send = search below depth 60 fits 20000
 
 filed_field_send : IsSend (Filed.the_field).row
-filed_field_send = search (source_field_send, source_field_sync, below) depth 60 fits 20000
+filed_field_send = search (source_field_send, source_field_sync, version_field_send, version_field_sync, below) depth 60 fits 20000
 
 filed_field_sync : IsSync (Filed.the_field).row
-filed_field_sync = search (source_field_send, source_field_sync, below) depth 60 fits 20000
+filed_field_sync = search (source_field_send, source_field_sync, version_field_send, version_field_sync, below) depth 60 fits 20000
 
 library_field_send : IsSend (Library.the_field).row
 library_field_send = search (filed_field_send, filed_field_sync, below) depth 60 fits 20000

@@ -4,7 +4,7 @@ use Rattle.fb_locked.specs.declared.locked.SharedRefused.{SharedRefused}
 use Rattle.fb_locked.specs.{declared.look.Look.{Look}, declared.look.WorkEnd.{WorkEnd}, Seats.{LockedView, SeatView, ReceiptView}, Refusals.{refusal_of}}
 use Rattle.fb_locked.specs.Ends.{Looks, EndsAs, end_before_take, end_of}
 use Rattle.fb_locked.specs.declared.look.Look.TheVariants.{Ended, Nothing, Taken}
-use Rattle.fb_locked.specs.declared.look.WorkEnd.TheVariants.{TurnsOver, Stopped, SeatDiffers, Behind, HistoryFull, Memory}
+use Rattle.fb_locked.specs.declared.look.WorkEnd.TheVariants.{TurnsOver, Stopped, Memory}
 use Rattle.fb_locked.specs.declared.locked.SharedRefused.TheVariants as cause
 use Rattle.fb_shared.specs.UnderLock.{IsReplayed, HasLooked, IsLookOf, MayLook}
 

@@ -9,7 +9,7 @@ ghost use Rattle.fb_shared.specs.{Seated.{unnamed}, UnderLock.{IsReplayed, Under
 
 use crate::rolling::Rolling;
 use fb_locked::bench::{
-    Answered, Bench, Identity, Limits, MOST_CALLS, Reading, Record, Request, Showing,
+    Answered, Bench, Committed, Identity, Limits, MOST_CALLS, Reading, Record, Request, Showing,
 };
 use fb_locked::jobs::{Finished, Job, Key};
 use fb_locked::library::Change;
@@ -29,7 +29,7 @@ const CLOSING: u64 = 100;
 
 /// A workbench that threads share. Each call holds the lock once. Beside the lock are the number of callers for whom seats were made, when the history begins
 /// again, if it does, and the identity of the workbench, 0 if it has none. `changed` wakes workers, `news` the one that wakes watchers, and `events` those who
-/// watch, who wait no longer if the workbench `is_closing`. `rests` counts how often there was nothing to take.
+/// watch, who wait no longer if the workbench `is_closing`. `rests` counts how often there was nothing to take, and `reached` the keys that commits have marked.
 pub struct Shared {
     pub(crate) state: Mutex<Locked>,
     pub(crate) callers: u32,
@@ -38,6 +38,7 @@ pub struct Shared {
     pub(crate) events: Condvar,
     pub(crate) is_closing: AtomicBool,
     pub(crate) rests: AtomicU64,
+    pub(crate) reached: AtomicU64,
     pub(crate) rolls: Option<Rolling>,
     pub(crate) workbench: Identity,
 }
@@ -52,6 +53,7 @@ impl Drop for Shared {
             events: _,
             is_closing: _,
             rests: _,
+            reached: _,
             rolls: _,
             workbench: _,
         } = self;
@@ -144,6 +146,7 @@ impl Shared {
             events: Condvar::new(),
             is_closing: AtomicBool::new(false),
             rests: AtomicU64::new(0),
+            reached: AtomicU64::new(0),
             rolls: None,
             workbench: Identity { high: 0, low: 0 },
         }
@@ -342,6 +345,9 @@ impl Shared {
         if let (Some(rolling), Ok(_)) = (&self.rolls, &answer) {
             rolling.count(request);
         }
+        if let Ok(Answered::Commit(Committed::Done(_))) = &answer {
+            self.count_reached(hold.state.bench().reached());
+        }
         hold.end();
         answer
     }
@@ -486,6 +492,15 @@ impl Shared {
         self.rests.load(Ordering::SeqCst)
     }
 
+    /// How many keys the commits of desks have marked as pending, those that were pending already included.
+    pub fn reached(&self) -> u64 {
+        self.reached.load(Ordering::SeqCst)
+    }
+
+    fn count_reached(&self, keys: u64) {
+        self.reached.fetch_add(keys, Ordering::SeqCst);
+    }
+
     /// Counts it if there is nothing to take now.
     pub fn look_for_rest<R: Wait>(&self, rt: &R) {
         self.enter(rt).end();
@@ -525,6 +540,7 @@ impl Shared {
             events,
             is_closing,
             rests,
+            reached,
             rolls,
             workbench,
         } = self;
@@ -546,6 +562,7 @@ impl Shared {
                     events,
                     is_closing,
                     rests,
+                    reached,
                     rolls,
                     workbench,
                 },

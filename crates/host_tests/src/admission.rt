@@ -1,6 +1,6 @@
 //! What connections say first.
 use crate::play::compare;
-use fb_host::{begins_request, take_proof};
+use fb_admission::{begins_request, take_proof};
 use fb_secret::{client_line, host_answer};
 use std::process::Abort;
 use std::test::Fail;

@@ -4,11 +4,11 @@ use crate::play::compare;
 use std::test::Fail;
 
 const ENTRANCE: &str = r#"
-== There are 32 threads of admission, and who has waited longest gives way to the newest / connections 3 / sessions 3 / calls 4, 4 / errors bench61499: connections turned away: 32, for a wrong secret: 0
+== First lines are read of 32 at once, and who has waited longest gives way to the newest / first-lines 32 / connections 3 / sessions 3 / calls 4, 4 / errors bench61499: connections turned away: 32, for a wrong secret: 0
 connect 32
 32 asks {"op":"take"} => {"job":0}
 0 is closed
-// Its thread is free again, and the next connection takes it.
+// There is room for one more.
 connect 1
 34 asks {"op":"take"} => {"job":0}
 1 is closed
@@ -21,14 +21,14 @@ each 3 to 31 is closed
 34 leaves
 2 leaves
 
-== A hundred peers that say nothing do not keep out the next one / secret sesame / connections 1 / calls 1, 1 / errors bench61499: connections turned away: 100, for a wrong secret: 0
+== A hundred peers that say nothing do not keep out the next one / first-lines 32 / secret sesame / connections 1 / calls 1, 1 / errors bench61499: connections turned away: 100, for a wrong secret: 0
 each 0 to 99 is challenged
 100 proves sesame => proved
 100 asks {"op":"take"} => {"job":0}
 each 0 to 99 is closed
 100 leaves
 
-== Peers that have sent a byte keep out nobody who still waits for the challenge / secret sesame / connections 1 / calls 1, 1 / errors bench61499: connections turned away: 33, for a wrong secret: 0
+== Peers that have sent a byte keep out nobody who still waits for the challenge / first-lines 32 / secret sesame / connections 1 / calls 1, 1 / errors bench61499: connections turned away: 33, for a wrong secret: 0
 each 0 to 31 is challenged
 each 0 to 31 says x
 connect 1
@@ -38,6 +38,15 @@ connect 1
 each 0 to 31 is closed
 33 is closed
 32 leaves
+"#;
+
+// When the client comes, as many wait as may, and others come all the time: the host takes in so few of them at once that the client has time to answer.
+const STORM: &str = r#"
+== A client answers late, while another peer connects as fast as it can and says nothing / first-lines 128 / secret sesame / connections 1 / calls 1, 1 / errors any
+connect 200
+in a storm 200 proves sesame after 100 => proved
+200 asks {"op":"take"} => {"job":0}
+200 leaves
 "#;
 
 const GOING_ON: &str = r#"
@@ -60,8 +69,8 @@ wait 400
 // last name must have its faults nevertheless.
 const FLOODS: &str = r#"
 == Four sessions commit at once / connections 6 / sessions 5 / workers 1 / units 1000 / history 100000 / calls any
-0 uses 4
-0 asks {"op":"commit","changes":[{"put":"ZZ","base":0,"text":"FUNCTION_BLOCK ZZ EVENT_INPUT E WITH X; END_EVENT END_FUNCTION_BLOCK"}]} => {"commit":5}
+0 uses 2
+0 asks {"op":"commit","changes":[{"put":"ZZ","base":0,"text":"FUNCTION_BLOCK ZZ EVENT_INPUT E WITH X; END_EVENT END_FUNCTION_BLOCK"}]} => {"commit":3}
 1 adds 10 from 0
 2 adds 10 from 10
 3 adds 10 from 20
@@ -73,7 +82,7 @@ leave 0 to 4
 5 asks {"op":"ask","kind":"faults","unit":"ZZ"} => {"faults":[["WITH_UNKNOWN",37,38]]}
 5 leaves
 
-== A new session comes for each eight commits / connections 5 / sessions 2 / workers 1 / units 1000 / history 100000 / calls any
+== A new session comes for each eight commits, which reach 256 keys / connections 5 / sessions 2 / workers 1 / units 1000 / history 100000 / calls any
 0 uses 2
 0 asks {"op":"commit","changes":[{"put":"ZZ","base":0,"text":"FUNCTION_BLOCK ZZ EVENT_INPUT E WITH X; END_EVENT END_FUNCTION_BLOCK"}]} => {"commit":3}
 1 adds 8 from 0
@@ -111,6 +120,34 @@ leave 0 to 2
 3 leaves
 "#;
 
+// Who reaches few keys waits for nothing: what was committed first is still pending after the last of twelve commits.
+const COLLEAGUES: &str = r#"
+== A colleague commits twelve times beside one whose commits reach many keys / connections 2 / sessions 2 / workers 1 / units 1000 / history 100000 / calls any
+0 uses 2
+1 asks {"op":"commit","changes":[{"put":"ZZ","base":0,"text":"FUNCTION_BLOCK ZZ EVENT_INPUT E WITH X; END_EVENT END_FUNCTION_BLOCK"}]} => {"commit":3}
+1 asks {"op":"commit","changes":[{"put":"Z0","base":0,"text":"FUNCTION_BLOCK Z0 END_FUNCTION_BLOCK"}]} => {"commit":4}
+1 asks {"op":"commit","changes":[{"put":"Z1","base":0,"text":"FUNCTION_BLOCK Z1 END_FUNCTION_BLOCK"}]} => {"commit":5}
+1 asks {"op":"commit","changes":[{"put":"Z2","base":0,"text":"FUNCTION_BLOCK Z2 END_FUNCTION_BLOCK"}]} => {"commit":6}
+1 asks {"op":"commit","changes":[{"put":"Z3","base":0,"text":"FUNCTION_BLOCK Z3 END_FUNCTION_BLOCK"}]} => {"commit":7}
+1 asks {"op":"commit","changes":[{"put":"Z4","base":0,"text":"FUNCTION_BLOCK Z4 END_FUNCTION_BLOCK"}]} => {"commit":8}
+1 asks {"op":"commit","changes":[{"put":"Z5","base":0,"text":"FUNCTION_BLOCK Z5 END_FUNCTION_BLOCK"}]} => {"commit":9}
+1 asks {"op":"commit","changes":[{"put":"Z6","base":0,"text":"FUNCTION_BLOCK Z6 END_FUNCTION_BLOCK"}]} => {"commit":10}
+1 asks {"op":"commit","changes":[{"put":"Z7","base":0,"text":"FUNCTION_BLOCK Z7 END_FUNCTION_BLOCK"}]} => {"commit":11}
+1 asks {"op":"commit","changes":[{"put":"Z8","base":0,"text":"FUNCTION_BLOCK Z8 END_FUNCTION_BLOCK"}]} => {"commit":12}
+1 asks {"op":"commit","changes":[{"put":"Z9","base":0,"text":"FUNCTION_BLOCK Z9 END_FUNCTION_BLOCK"}]} => {"commit":13}
+1 asks {"op":"commit","changes":[{"put":"Z10","base":0,"text":"FUNCTION_BLOCK Z10 END_FUNCTION_BLOCK"}]} => {"commit":14}
+1 asks {"op":"peek","kind":"faults","unit":"ZZ"} => {"answer":"pending"}
+leave 0 to 1
+
+== A colleague commits while another's commits reach many keys / connections 2 / sessions 2 / workers 1 / units 1000 / history 100000 / calls any
+0 uses 2
+0 adds 8 from 0
+1 puts 12
+1 asks {"op":"peek","kind":"faults","unit":"M9"} => {"answer":"pending"}
+0 reads 8
+leave 0 to 1
+"#;
+
 const GRABS: &str = r#"
 == A session takes a key again that it has kept for too long / connections 3 / sessions 2 / key 1000 / workers 1 / units 1000 / history 100000 / calls any
 0 uses 1
@@ -145,6 +182,11 @@ fn who_commits_without_end_waits_for_the_workers(rt: HostRuntime) -> Result<(), 
 }
 
 #[test]
+fn a_colleague_waits_for_nobody(rt: HostRuntime) -> Result<(), Fail> {
+    compare(&rt, rt.alloc(), COLLEAGUES)
+}
+
+#[test]
 fn a_key_that_is_let_go_is_the_workers_first(rt: HostRuntime) -> Result<(), Fail> {
     compare(&rt, rt.alloc(), GRABS)
 }
@@ -152,6 +194,11 @@ fn a_key_that_is_let_go_is_the_workers_first(rt: HostRuntime) -> Result<(), Fail
 #[test]
 fn nobody_shuts_the_entrance(rt: HostRuntime) -> Result<(), Fail> {
     compare(&rt, rt.alloc(), ENTRANCE)
+}
+
+#[test]
+fn a_storm_leaves_time_to_answer(rt: HostRuntime) -> Result<(), Fail> {
+    compare(&rt, rt.alloc(), STORM)
 }
 
 #[test]

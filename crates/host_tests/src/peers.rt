@@ -1,8 +1,10 @@
 //! What a peer does, and what it gets then.
 use fb_secret::{client_line, host_answer};
 use std::alloc::{AllocError, Global};
+use std::collections::VecDeque;
 use std::io::{ErrorKind, Read, Write};
-use std::net::{Net, OpenStream, Shutdown, TcpListener, TcpStream};
+use std::net::{IpAddr, Ipv4Addr, Net, OpenStream, Shutdown, SocketAddr, TcpListener, TcpStream};
+use std::sync::atomic::{AtomicBool, Ordering};
 use std::time::{Clock, Duration, Instant};
 use std::{io, thread};
 
@@ -20,6 +22,9 @@ const AT_ONCE: usize = 16;
 const NOW_AND_THEN: u64 = 20;
 
 const BYTES: u32 = 500;
+
+/// How many connections a storm keeps.
+const MOST_SILENT: usize = 300;
 
 /// How many milliseconds a peer sends lines at most and reads no reply.
 const FLOOD: u64 = 40_000;
@@ -53,6 +58,32 @@ pub(crate) fn connect<R: Net<Listener = TcpListener, Stream = TcpStream>>(
     let stream = TcpStream::connect(rt, address.as_str())?;
     stream.set_read_timeout(Some(Duration::from_millis(BOUND)))?;
     Ok(stream)
+}
+
+/// Connects again and again, as fast as it can, and says nothing, until it is over. It gives how often it has connected.
+pub(crate) fn storm<R: Net<Listener = TcpListener, Stream = TcpStream>>(
+    rt: &R,
+    alloc: Global,
+    port: u16,
+    is_over: &AtomicBool,
+) -> io::Result<usize> {
+    let address = SocketAddr::new(IpAddr::V4(Ipv4Addr::LOCALHOST), port);
+    let mut silent = VecDeque::new(alloc);
+    let mut count = 0usize;
+    for _ in 0..LOOKS {
+        if is_over.load(Ordering::SeqCst) {
+            break;
+        }
+        let timeout = Duration::from_millis(NOW_AND_THEN);
+        if let Ok(stream) = TcpStream::connect_timeout(rt, &address, timeout) {
+            silent.push_back(stream)?;
+            count = count.saturating_add(1);
+        }
+        if MOST_SILENT < silent.len() {
+            drop(silent.pop_front());
+        }
+    }
+    Ok(count)
 }
 
 /// Sends the text.
@@ -106,9 +137,17 @@ pub(crate) fn take_challenge(alloc: Global, stream: &TcpStream) -> io::Result<St
     Ok(String::from_str(alloc, challenge)?)
 }
 
-/// Gets the challenge of a host, and proves that it has the secret. It gives that both have proved it, or what it gets in the place of the host's proof.
-pub(crate) fn prove(alloc: Global, stream: &TcpStream, secret: &str) -> io::Result<String> {
+/// Gets the challenge of a host, and proves this number of milliseconds later that it has the secret. It gives that both have proved it, or what it gets in the place
+/// of the host's proof.
+pub(crate) fn prove<R: Clock>(
+    rt: &R,
+    alloc: Global,
+    stream: &TcpStream,
+    secret: &str,
+    later: usize,
+) -> io::Result<String> {
     let challenge = take_challenge(alloc, stream)?;
+    thread::sleep(rt, Duration::from_millis(later as u64));
     let (secret, challenge) = (secret.as_bytes(), challenge.as_bytes());
     let line = client_line(alloc, secret, challenge, CHALLENGE)?;
     let mut writer = stream;

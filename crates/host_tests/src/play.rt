@@ -2,13 +2,13 @@
 //!
 //! A text has conversations, each a heading and steps. A heading is `== TITLE / SETTING VALUE / SETTING VALUE`, and so on. The settings are `connections`:
 //! after how many sessions the host closes, and `calls`: how many are made, and how many of them since the start of the history, or `any`. Unless others are
-//! there, a host has `sessions 1`, `workers 0`, `units 100`, `history 20`, `first-line 600000`, which are milliseconds, `idle 0`, and as its identity the
+//! there, a host has `sessions 1`, `workers 0`, `units 100`, `history 20`, `first-lines 1000`, `first-line 600000`, which are milliseconds, `idle 0`, and as its identity the
 //! numbers `high 0` and `low 0`; no `secret`, 32 zeros as the key of its challenges, `reply 600000` and `key 600000`, which are milliseconds too,
 //! and it prints no `errors`, which may be `any` too. With `failing yes` the system gives no connection if none waits.
 ghost use Rattle.std.specs.Thread.{IsSync};
 
 use crate::steps::{first_wrong, lines_in};
-use fb_host::{COMMIT_WAIT, HostConfig, Identity, host_on};
+use fb_host::{COMMIT_WAIT, EntranceConfig, HostConfig, Identity, host_on};
 use fb_serve::Ended;
 use fb_wire::MemorySink;
 use fb_wire::bench::Limits;
@@ -49,7 +49,11 @@ fn config_of(heading: &str) -> Result<HostConfig, Fail> {
         sessions: setting(heading, "sessions", "1").parse()?,
         limits: Limits::new(setting(heading, "units", "100").parse()?, history).ok_or("limits")?,
         memory: setting(heading, "memory", "1000000").parse()?,
-        first_line_timeout: setting(heading, "first-line", "600000").parse()?,
+        entrance: EntranceConfig {
+            first_lines: setting(heading, "first-lines", "1000").parse()?,
+            first_line_timeout: setting(heading, "first-line", "600000").parse()?,
+            challenge_key: [0; 32],
+        },
         idle_timeout: setting(heading, "idle", "0").parse()?,
         reply_timeout: setting(heading, "reply", "600000").parse()?,
         commit_wait: COMMIT_WAIT,
@@ -59,7 +63,6 @@ fn config_of(heading: &str) -> Result<HostConfig, Fail> {
             high: setting(heading, "high", "0").parse()?,
             low: setting(heading, "low", "0").parse()?,
         },
-        challenge_key: [0; 32],
     })
 }
 
@@ -99,7 +102,7 @@ fn ends<R: Clock>(rt: &R, ended: &AtomicBool) -> bool {
 }
 
 // Makes the steps. At the first that goes wrong the test ends, and does not wait for the host; nor does it where the host does not end.
-fn act<R: Net<Listener = TcpListener, Stream = TcpStream> + Wait + Clock + Abort>(
+fn act<R: Net<Listener = TcpListener, Stream = TcpStream> + Threads + Wait + Clock + Sync + Abort>(
     rt: &R,
     alloc: Global,
     port: u16,

@@ -1,5 +1,5 @@
 //! The codes of RFC 4231, the lines of an exchange, and lines that prove nothing.
-use fb_host::take_proof;
+use fb_admission::take_proof;
 use fb_secret::{
     challenge, challenge_line, client_line, hmac_sha256, host_answer, proofs_are_for_one_exchange,
 };

@@ -5,6 +5,8 @@
 //! | `connect 6` | this number of peers connect; the next one also connects by its first step |
 //! | `0 is challenged` | it gets a challenge |
 //! | `0 proves SECRET => proved` | it gets a challenge, proves that it has this secret, and gets the proof of the host; or what it gets in the place of that |
+//! | `0 proves SECRET after 100 => proved` | the same, but it proves this number of milliseconds after the challenge |
+//! | `in a storm 0 STEP => REPLY` | another peer connects as fast as it can and says nothing, while this one makes this step |
 //! | `0 says TEXT` | the peer sends this, where `\n` and `\r` are ends of lines |
 //! | `0 asks LINE => REPLY` | it sends a line, and gets one |
 //! | `0 repeats 30 LINE => REPLY` | the same, this number of times |
@@ -33,16 +35,24 @@
 //! | `passed 90` | at least this number of milliseconds have passed since the first step |
 //! | `within 9000` | at most this number |
 //! | `wait 400` | this number of milliseconds pass |
+ghost use Rattle.std.specs.Thread.{IsSync};
+
 use crate::peers::{
     add_types, commit_all, commit_faults, commit_units, commit_users, connect, count, drip, end,
-    flood, get, get_lines, grab, leave, prove, regrab, repeat, rest, say, take, take_challenge,
+    flood, get, get_lines, grab, leave, prove, regrab, repeat, rest, say, storm, take,
+    take_challenge,
 };
 use std::alloc::{AllocError, Global};
 use std::io::ErrorKind;
 use std::net::{Net, TcpListener, TcpStream};
+use std::sync::atomic::{AtomicBool, Ordering};
 use std::sync::{Mutex, MutexGuard, Wait};
+use std::thread::{Threads, join};
 use std::time::{Clock, Duration, Instant};
 use std::{io, thread};
+
+/// How often a storm connects at least.
+const LEAST_STORM: usize = 64;
 
 /// How often it is looked whether the host has printed something, and how many milliseconds pass from one look to the next.
 const LOOKS: u32 = 10_000;
@@ -224,14 +234,44 @@ fn got<R: Clock>(
             take_challenge(alloc, stream)?;
             Ok(String::new(alloc))
         }
-        ("proves", secret) => prove(alloc, stream, secret),
+        ("proves", words) => {
+            let (secret, later) = words.split_once(" after ").unwrap_or((words, "0"));
+            prove(rt, alloc, stream, secret, number_in(later)?)
+        }
         ("is", "closed") => rest(alloc, stream),
         _ => Err(io::Error::from(ErrorKind::InvalidInput)),
     }
 }
 
+// Makes the step of a peer in a storm, in which another one connects a number of times at least.
+fn got_in_storm<R: Net<Listener = TcpListener, Stream = TcpStream> + Threads + Wait + Clock + Sync>(
+    rt: &R,
+    alloc: Global,
+    port: u16,
+    stream: &TcpStream,
+    step: &str,
+    wanted: &str,
+) -> io::Result<String> {
+    let is_over = AtomicBool::new(false);
+    let (told, count) = join(
+        rt,
+        || -> io::Result<String>
+            requires { IsSync R.row }
+        {
+            let told = got(rt, alloc, stream, step, wanted);
+            is_over.store(true, Ordering::SeqCst);
+            told
+        },
+        || storm(rt, alloc, port, &is_over),
+    );
+    if count? < LEAST_STORM {
+        return Ok(String::from_str(alloc, "no storm")?);
+    }
+    told
+}
+
 // Makes the step in a line, if there is one. It gives what comes, which should be this.
-fn told<R: Net<Listener = TcpListener, Stream = TcpStream> + Wait + Clock>(
+fn told<R: Net<Listener = TcpListener, Stream = TcpStream> + Threads + Wait + Clock + Sync>(
     rt: &R,
     alloc: Global,
     scene: &mut Scene<'_>,
@@ -256,6 +296,17 @@ fn told<R: Net<Listener = TcpListener, Stream = TcpStream> + Wait + Clock>(
         ("passed", least) => passed(rt, alloc, scene.begun, number_in(least)?),
         ("within", most) => within(rt, alloc, scene.begun, number_in(most)?),
         ("wait", length) => Ok(wait(rt, alloc, number_in(length)?)),
+        ("in", words) => {
+            let words = words
+                .strip_prefix("a storm ")
+                .ok_or(ErrorKind::InvalidInput)?;
+            let (number, step) = words.split_once(' ').ok_or(ErrorKind::InvalidInput)?;
+            let number = number_in(number)?;
+            let missing = usize::from(number == streams.len());
+            connect_all(rt, alloc, scene.port, streams, missing)?;
+            let stream = peer(streams, number)?;
+            got_in_storm(rt, alloc, scene.port, stream, step, wanted)
+        }
         (number, step) => {
             let number = number_in(number)?;
             let missing = usize::from(number == streams.len());
@@ -266,7 +317,9 @@ fn told<R: Net<Listener = TcpListener, Stream = TcpStream> + Wait + Clock>(
 }
 
 /// Makes the steps, up to the first at which something else comes. It gives the line of that, and what comes.
-pub(crate) fn first_wrong<R: Net<Listener = TcpListener, Stream = TcpStream> + Wait + Clock>(
+pub(crate) fn first_wrong<
+    R: Net<Listener = TcpListener, Stream = TcpStream> + Threads + Wait + Clock + Sync,
+>(
     rt: &R,
     alloc: Global,
     port: u16,

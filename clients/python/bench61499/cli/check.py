@@ -9,7 +9,7 @@ from pathlib import Path
 from bench61499 import Fault, Key, Session, WorkbenchError
 from bench61499.cli.command import Progress, add_patience, add_workbench, fail, open_session, persistently, program, read_path, tell
 from bench61499.cli.comparing import AGAIN, Difference, Judged, compare, not_compared, only_there, remarks, replace
-from bench61499.cli.findings import Answers, Found, answers_of, ask_plans, find, keys_of
+from bench61499.cli.findings import Answers, Found, answers_of, find, keys_of, try_plans
 from bench61499.cli.formats import MACHINE_FORMATS, lines, summary
 from bench61499.cli.looking import ONLY_ASKED, look
 from bench61499.cli.version import add_version
@@ -30,7 +30,7 @@ STRICT = """warnings of this client give status 1 too: types of values that are 
 class Checked:
     """The faults of units by their names, networks and plans if they are asked for, and whose texts were judged: `around` has all of a workbench.
 
-    `replaced` counts the units that a workbench had before.
+    `replaced` counts the units that a workbench had before; `failed` tells why there are no networks and plans although they were asked for.
     """
 
     units: list[Unit]
@@ -40,10 +40,11 @@ class Checked:
     differences: list[Difference] = field(default_factory=list)
     around: dict[str, str] | None = None
     replaced: int = 0
+    failed: str = ""
 
     def found(self) -> Found:
         found = find(self.units, self.faults, self.answers, self.around)
-        found.judged, found.differences = self.judged, self.differences
+        found.judged, found.differences, found.failed = self.judged, self.differences, self.failed
         return found
 
 
@@ -69,9 +70,10 @@ def main() -> int:
     for line in output(found, options, checked.replaced):
         print(line)
     is_told = options.format == "human" and not options.quiet
-    for remark in [*remarks(found.differences), *([ONLY_ASKED] if found.judged == Judged.NOT_COMPARED and not is_told else [])]:
+    asked = [ONLY_ASKED] if found.judged == Judged.NOT_COMPARED and not is_told else []
+    for remark in [*remarks(found.differences), *asked, *filter(None, [found.failed])]:
         tell(f"check: {remark}")
-    return 2 if found.unchecked else int(found.is_faulty)
+    return 2 if found.unchecked or found.failed else int(found.is_faulty)
 
 
 def print_project(options: argparse.Namespace) -> int:
@@ -82,7 +84,9 @@ def print_project(options: argparse.Namespace) -> int:
     found.is_strict = options.strict
     for line in output(found, options, 0):
         print(line)
-    return 2 if failed else int(found.is_faulty)
+    if found.failed:
+        tell(f"check: {found.failed}")
+    return 2 if failed or found.failed else int(found.is_faulty)
 
 
 def read_options() -> argparse.Namespace:
@@ -92,7 +96,7 @@ def read_options() -> argparse.Namespace:
         "checks those that are the same, names the others, and changes nothing; without PATH it checks all units of the server, as files NAME.fb.",
         epilog="The status is 0 if there are no faults; 1 if there are, or warnings with --strict; 2 if a path is absent or unreadable, there is no *.fb file or more than 16,384, two files "
         "declare one unit, a file has more than 65,536 bytes, is not UTF-8, or has marked lines of a merge with --replace, the server lacks a unit, has another text of it or gives none back, somebody changed one meanwhile, "
-        "no workbench answers, a result does not come within the patience, or the output can't be written.",
+        "no workbench answers, a result does not come within the patience, the memory of the workbench does not suffice, or the output can't be written.",
     )
     add_version(reader)
     reader.add_argument("path", nargs="*", type=read_path, metavar="FOLDER|FILE", help="*.fb files, or folders of them; with --xml files of XML, or folders")
@@ -135,7 +139,7 @@ def check(options: argparse.Namespace, units: list[Unit]) -> Checked:
         else:
             checked = put_and_check(session, units, progress)
         if options.plans:
-            checked.answers = ask_plans(session, units, lambda asked: progress.show(f"asking for networks and plans: {asked:,}"))
+            checked.answers, checked.failed = try_plans(session, units, progress)
     return checked
 
 
@@ -163,7 +167,7 @@ def check_shared(session: Session, options: argparse.Namespace, units: list[Unit
 def put_and_check(session: Session, units: list[Unit], progress: Progress) -> Checked:
     """Puts the units into a workbench that answers no reads, or an own one, and has it check them."""
     replaced = commit_units(session, units, lambda put: progress.show(f"putting units: {put:,} of {len(units):,}"))
-    faults = session.settle(lambda results: progress.show(f"checking {len(units):,} units: {results:,} results"))
+    faults = session.find_faults(lambda results: progress.show(f"checking {len(units):,} units: {results:,} results"))
     if changed := session.changed(session.revisions):
         raise Misuse(AGAIN.format(min(changed)))
     return Checked(units, faults, replaced=replaced)

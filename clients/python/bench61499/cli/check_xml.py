@@ -9,7 +9,7 @@ from pathlib import Path
 
 from bench61499 import TEXT_LIMIT, Places
 from bench61499.cli.command import Progress, open_session, tell
-from bench61499.cli.findings import Finding, Found, ask_plans, find
+from bench61499.cli.findings import Finding, Found, find, try_plans
 from bench61499.exchange.exchanged import Instance
 from bench61499.exchange.imports import Made, Project, are_same, written_in_room
 from bench61499.exchange.located import Lines
@@ -28,9 +28,11 @@ def check_project(options: argparse.Namespace) -> tuple[Found, int]:
         raise Misuse(f"no unit in {', '.join(map(str, options.path))}")
     with open_session(options) as session, Progress() as progress:
         commit_units(session, project.units, lambda put: progress.show(f"putting units: {put:,} of {len(project.units):,}"))
-        faults = session.settle(lambda results: progress.show(f"checking {len(project.units):,} units: {results:,} results"))
-        answers = ask_plans(session, project.units, lambda asked: progress.show(f"asking for networks and plans: {asked:,}")) if options.plans else None
-    return project.located(find(project.units, faults, answers)), len(failed)
+        faults = session.find_faults(lambda results: progress.show(f"checking {len(project.units):,} units: {results:,} results"))
+        answers, lack = try_plans(session, project.units, progress) if options.plans else (None, "")
+    found = project.located(find(project.units, faults, answers))
+    found.failed = lack
+    return found, len(failed)
 
 
 class XmlUnits:

@@ -17,6 +17,7 @@ from typing import TextIO, TypeVar
 from bench61499 import ConnectionEnded, NoAnswer, NoSeat, NoSecret, NotLetIn, Session, find_program, pauses
 from bench61499.language.names import shown
 from bench61499.language.units import Misuse
+from bench61499.memory import MEMORY_LIMIT, amount, amount_in
 from bench61499.secret import UnfitSecret, read_secret
 from bench61499.session import PATIENCE
 
@@ -36,6 +37,8 @@ def add_workbench(reader: argparse.ArgumentParser) -> None:
     which.add_argument("--program", help=program)
     _add_connect(which)
     _add_secret(reader)
+    memory = f"without --connect: the memory that the workbench may take, such as 512M or 4G, or none for no limit (default {amount(MEMORY_LIMIT)})"
+    reader.add_argument("--memory-limit", type=read_memory, default=MEMORY_LIMIT, metavar="SIZE", help=memory)
 
 
 def add_server(reader: argparse.ArgumentParser) -> None:
@@ -92,6 +95,14 @@ def read_seconds(words: str) -> float:
     return seconds
 
 
+def read_memory(words: str) -> int | None:
+    """An amount of memory, at least one byte; None for `none`."""
+    size = amount_in(words)
+    if not size and words != "none":
+        raise argparse.ArgumentTypeError(f"{words!r} is no amount of memory, such as 512M or 4G, and not none")
+    return size
+
+
 def read_path(words: str) -> Path:
     """A file or a folder; an empty word, such as a shell makes of a variable that is not set, would be the present folder."""
     if not words:
@@ -102,7 +113,7 @@ def read_path(words: str) -> Path:
 def open_once(options: argparse.Namespace) -> Session:
     """The session that the words ask for. Raises `NoWorkbench` and the like."""
     if not options.connect:
-        return Session.script(options.program or find_program())
+        return Session.script(options.program or find_program(), memory=options.memory_limit)
     host, port = options.connect
     session = Session.connect(host, port, secret=_named_secret(options.secret))
     session.patience = getattr(options, "patience", PATIENCE)

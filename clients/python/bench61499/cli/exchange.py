@@ -156,7 +156,7 @@ def values_for(asked: Asked, unit: str, subapplications: list[str]) -> tuple[dic
 
 def values_of_files(options: argparse.Namespace, subapplications: list[str]) -> tuple[dict[str, Net], Deploy]:
     """The same of a workbench of its own. A false server may have these texts and another plan."""
-    with asking(argparse.Namespace(unit=options.unit, files=options.files, connect=None, program=None), False) as asked:
+    with asking(argparse.Namespace(unit=options.unit, files=options.files, connect=None, program=None, memory_limit=options.memory_limit), False) as asked:
         return values_for(asked, options.unit, subapplications)
 
 

@@ -6,7 +6,8 @@ from contextlib import suppress
 from dataclasses import dataclass, field, replace
 from typing import Any, Literal
 
-from bench61499 import Deploy, Fault, Key, Net, NoSuchKey, Places, Session, There
+from bench61499 import Deploy, Fault, Key, Net, NoSuchKey, OutOfMemory, Places, Session, There
+from bench61499.cli.command import Progress
 from bench61499.cli.comparing import Difference, Judged
 from bench61499.language.copies import Originals
 from bench61499.language.explain import Explainer, Names
@@ -23,8 +24,6 @@ from bench61499.language.warned import warned
 Level = Literal["error", "warning", "note"]
 KEYS: dict[str, Literal["net", "deploy"]] = {"SUBAPPLICATION": "net", "SYSTEM": "deploy"}
 """What is asked for of units by their first word."""
-_AT_ONCE = 1_024
-"""Networks and plans that are asked for between two lines of progress."""
 
 
 @dataclass(frozen=True)
@@ -85,6 +84,8 @@ class Found:
     differences: Sequence[Difference] = ()
     is_strict: bool = False
     """Whether warnings count."""
+    failed: str = ""
+    """Why networks and plans are not known although they were asked for."""
 
     @property
     def unchecked(self) -> list[str]:
@@ -193,13 +194,19 @@ def answers_of(values: Mapping[Key, Any], keys: Iterable[Key]) -> Answers:
     return answers
 
 
+def try_plans(session: Session, units: Iterable[Unit], progress: Progress) -> tuple[Answers | None, str]:
+    """The networks of all subapplications and the plans of all systems, or why they are not known: the memory of the workbench does not suffice for them."""
+    try:
+        return ask_plans(session, units, lambda known: progress.show(f"computing networks and plans: {known:,} results")), ""
+    except OutOfMemory as error:
+        return None, f"the networks and plans are not known: {error}"
+
+
 def ask_plans(session: Session, units: Iterable[Unit], progress: Callable[[int], object]) -> Answers:
     """The networks of all subapplications and the plans of all systems; None for a text that spells no unit."""
-    values: dict[Key, Any] = {}
     keys = keys_of(units)
-    for at in range(0, len(keys), _AT_ONCE):
-        progress(at)
-        values |= session.ask_all(keys[at : at + _AT_ONCE], is_brief=True)
+    session.work_off(progress=progress)
+    values: dict[Key, Any] = session.ask_all(keys, is_brief=True)
     for key in [key for key, value in values.items() if value is None]:
         with suppress(NoSuchKey):
             values[key] = session.wait(*key)

@@ -109,6 +109,8 @@ def as_json(found: Found) -> str:
     if found.answers:
         value["reasons"] = [_entry(it) for it in found.reasons]
         value.update(_counts(found.answers))
+    if found.failed:
+        value["failed"] = found.failed
     return json.dumps(value, indent=2)
 
 
@@ -141,6 +143,8 @@ def as_github(found: Found) -> str:
     remarks = [f"::warning file={_escaped(str(it.file), ':,')},title=NOT_CHECKED::{_not_checked(it)}" for it in found.differences if it.file]
     if found.judged != Judged.FILES:
         remarks.append(f"::notice title=JUDGED::the texts of the {found.judged}")
+    if found.failed:
+        remarks.append(f"::error title=FAILED::{_escaped(found.failed)}")
     return "\n".join([*map(_command, found.all_and_skipped()), *remarks])
 
 
@@ -175,7 +179,7 @@ def as_sarif(found: Found) -> str:
         "tool": {"driver": driver},
         "columnKind": "unicodeCodePoints",
         "results": [_result(it, places) for it in found.all_and_skipped()],
-        **({} if found.judged == Judged.FILES else {"invocations": [_invocation(found)], "properties": {"judged": found.judged}}),
+        **({} if found.judged == Judged.FILES and not found.failed else {"invocations": [_invocation(found)], "properties": {"judged": found.judged}}),
     }
     return json.dumps({"$schema": _SCHEMA, "version": "2.1.0", "runs": [run]}, indent=2)
 
@@ -194,11 +198,12 @@ def _result(it: Finding, rules: dict[str, int]) -> Json:
 
 def _invocation(found: Found) -> Json:
     """Whether all was checked, and what was not."""
-    notifications = [
+    notifications: list[Json] = [
         {"level": "error", "message": {"text": _not_checked(it)}, "locations": [{"physicalLocation": {"artifactLocation": {"uri": _uri(it.file)}}}]}
         for it in found.differences
         if it.file
     ]
+    notifications += [{"level": "error", "message": {"text": found.failed}}] if found.failed else []
     return {"executionSuccessful": not notifications, "toolExecutionNotifications": notifications}
 
 
@@ -215,7 +220,8 @@ def as_junit(found: Found) -> str:
     for it in (each for each in found.all() if each.level != "warning" and each.code != SPELLING):
         findings[it.unit.name].append(it)
     skipped = {it.unit: it for it in found.differences if it.file and not findings[it.unit]}
-    counts = {"tests": len(findings), "failures": sum(map(bool, findings.values())), "errors": 0, "skipped": len(skipped)}
+    errors = int(bool(found.failed))
+    counts = {"tests": len(findings) + errors, "failures": sum(map(bool, findings.values())), "errors": errors, "skipped": len(skipped)}
     attributes = {name: str(count) for name, count in counts.items()}
     top = ElementTree.Element("testsuites", {"name": "bench61499", **attributes})
     suite = ElementTree.SubElement(top, "testsuite", {"name": "units", **attributes})
@@ -225,6 +231,8 @@ def as_junit(found: Found) -> str:
         case = _test_case(suite, unit, findings[unit.name])
         if unit.name in skipped:
             ElementTree.SubElement(case, "skipped", message=_not_checked(skipped[unit.name]))
+    if found.failed:
+        ElementTree.SubElement(ElementTree.SubElement(suite, "testcase", classname="plans", name="networks and plans"), "error", message=_in_xml(found.failed))
     for it, case in ((it, case) for case in suite for it in (*found.warnings, *(note for note in found.notes if note.code == SPELLING), *found.skipped) if it.unit.name == case.get("name")):
         _remark(case, it)
     ElementTree.indent(top)

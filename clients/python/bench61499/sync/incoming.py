@@ -10,10 +10,10 @@ from bench61499 import TEXT_LIMIT
 from bench61499.language.names import is_unit_name, is_utf_8
 from bench61499.mirror import Version
 from bench61499.sync.deciding import Decision, Step
-from bench61499.sync.files import Writer
+from bench61499.sync.files import Changed, Writer
 from bench61499.sync.report import Report
 from bench61499.sync.saved import GONE_AFTER, Saved
-from bench61499.sync.store import FileRevision, Store
+from bench61499.sync.store import FileRevision, Store, digest
 
 MANY = 50
 """So many new files are brought to the disk together."""
@@ -32,6 +32,7 @@ class Incoming:
         self._settled: set[str] = set()
         self._to_write: dict[str, tuple[str, FileRevision]] = {}
         self._absent: dict[str, float] = {}
+        self._merged: dict[str, bytes] = {}
 
     def bring(self, unit: str, name: str | None, decision: Decision, version: Version, by: str) -> str | None:
         """Does a step, of a unit whose file is `name`, and gives its file then. Raises `Changed` if somebody has written the file meanwhile, and `OSError`."""
@@ -76,6 +77,7 @@ class Incoming:
     def record(self) -> None:
         """Has all that was written be on the disk, and then records what is common now."""
         self._writer.flush()
+        self._store.thin()
         if not (self._agreed or self._disputed or self._settled or self._to_write):
             return
         with self._store.together():
@@ -139,8 +141,10 @@ class Incoming:
         self._report.did(Step.DELETE, name, f": {unit} was removed{by}")
 
     def _merge(self, unit: str, name: str, text: str, version: Version, by: str) -> None:
-        theirs = _checked(unit, version)
-        self._put_over(unit, name, text, "-changed")
+        theirs, former = _checked(unit, version), self._saved.text(name) or ""
+        is_own = digest(former) != self._merged.get(unit)  # Not what was merged before, and could not be committed.
+        self._put_over(unit, name, text, "-changed" if is_own else "-merged")
+        self._merged[unit] = digest(text)
         self._agreed[unit] = FileRevision(name, version.revision, theirs)
         self._report.did(Step.MERGE, name, f" with revision {version.revision}{by}")
 
@@ -168,8 +172,12 @@ class Incoming:
 
     def _take_away(self, unit: str, theirs: FileRevision) -> None:
         beside = self._beside(theirs.file)
-        if os.path.lexists(beside):
-            self._writer.remove(beside, None, lambda: self._store.keep(unit, f"{theirs.revision}-theirs.fb"))
+        if not os.path.lexists(beside):
+            return
+        try:
+            self._writer.remove(beside, theirs.text.encode(), lambda: self._store.keep(unit, f"{theirs.revision}-theirs.fb"))
+        except Changed:
+            self._writer.remove(beside, None, lambda: self._store.keep(unit, f"{theirs.revision}-theirs-changed.fb"))
 
     def _beside(self, name: str) -> Path:
         return self._saved.root / f"{name}{BESIDE}"

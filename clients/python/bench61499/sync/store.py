@@ -1,7 +1,6 @@
 """What is known of a folder between two runs: which texts were last common, what is in question, and what was written over."""
 from __future__ import annotations
 
-import errno
 import fcntl
 import os
 import sqlite3
@@ -9,13 +8,13 @@ import time
 from collections.abc import Callable, Iterable, Iterator, Mapping
 from contextlib import closing, contextmanager
 from dataclasses import astuple, dataclass
-from datetime import UTC, datetime
 from hashlib import sha256
 from pathlib import Path
 
 from bench61499 import UNITS_LIMIT
 from bench61499.language.names import is_unit_name
 from bench61499.language.units import Misuse, can_be_unit, is_hidden
+from bench61499.sync.kept import Kept
 
 NAME = ".bench61499"
 """The folder inside the folder."""
@@ -34,6 +33,10 @@ CREATE TABLE IF NOT EXISTS conflict (unit TEXT PRIMARY KEY, file TEXT NOT NULL, 
 CREATE TABLE IF NOT EXISTS former (unit TEXT, digest BLOB, PRIMARY KEY (unit, digest)) WITHOUT ROWID;
 """
 _SCHEMA = "SELECT name, sql FROM sqlite_master WHERE sql IS NOT NULL LIMIT 100"
+MOST_FORMER = 256
+"""Former texts of a unit that are known, and the most units of which any are known that are gone."""
+MOST_GONE = UNITS_LIMIT
+_GONE = "FROM former WHERE unit NOT IN (SELECT unit FROM common)"
 _LONGEST = 1_000_000
 """Bytes of a value."""
 _LOCK = "lock"
@@ -61,6 +64,7 @@ class Store:
     def __init__(self, folder: Path):
         """Raises `Misuse` if the folder can't be used, or another process does."""
         self.folder = folder / NAME
+        self._kept, self._removals = Kept(self.folder / "kept"), 0
         try:
             self._prepare()
             self._lock = _locked(self.folder / _LOCK)
@@ -71,7 +75,7 @@ class Store:
 
     def _prepare(self) -> None:
         refuse_foreign(self.folder)
-        for folder in (self.folder, self.drafts, self.kept):
+        for folder in (self.folder, self.drafts, self._kept.folder):
             folder.mkdir(exist_ok=True)
         ignored = self.folder / ".gitignore"
         if not ignored.exists():
@@ -88,6 +92,8 @@ class Store:
         self.written = {unit: (contents[unit], it) for unit, it in self._file_revisions("written").items()}
         for draft in self.drafts.iterdir():  # Of a run that was killed.
             os.rename(draft, self.keep("_", draft.name))
+        self._kept.open()
+        self._forget_gone()
 
     def _file_revisions(self, table: str) -> dict[str, FileRevision]:
         """The rows of a table, but for those with names that lead out of the folder: it may come from anywhere."""
@@ -101,10 +107,6 @@ class Store:
     @property
     def drafts(self) -> Path:
         return self.folder / "new"
-
-    @property
-    def kept(self) -> Path:
-        return self.folder / "kept"
 
     def is_there(self) -> bool:
         """Whether the folder is still the one that was opened: it may have been moved away, or its disk be gone."""
@@ -147,6 +149,14 @@ class Store:
         elif former:
             put_former(self._tables, unit, former.text)
             self._tables.execute("DELETE FROM common WHERE unit = ?", (unit,))
+            self._removals += 1
+            if self._removals % MOST_GONE == 0:
+                self._forget_gone()
+
+    def _forget_gone(self) -> None:
+        """Forgets the former texts of units that are gone, if there are too many: others can put and remove any names."""
+        if self._rows(f"SELECT COUNT(DISTINCT unit) {_GONE}")[0][0] > MOST_GONE:
+            self._tables.execute(f"DELETE {_GONE}")
 
     def is_of_this(self, unit: str) -> bool:
         """Whether the common text of a unit was common with this workbench."""
@@ -160,7 +170,7 @@ class Store:
         """Whether this text was common once, and another one has come in its place."""
         common = self.common.get(unit)
         is_present = common is not None and common.text == text
-        return not is_present and bool(self._tables.execute("SELECT 1 FROM former WHERE unit = ? AND digest = ?", (unit, _digest(text))).fetchone())
+        return not is_present and bool(self._tables.execute("SELECT 1 FROM former WHERE unit = ? AND digest = ?", (unit, digest(text))).fetchone())
 
     def send(self, texts: Mapping[str, str | None]) -> None:
         self.sent.update(texts)
@@ -189,13 +199,12 @@ class Store:
             self._tables.execute("DELETE FROM conflict WHERE unit = ?", (unit,))
 
     def keep(self, unit: str, words: str) -> Path:
-        """A name for what is written over; nothing has it yet. Raises `OSError` if its folder is a link, which could lead anywhere."""
-        folder = self.kept / unit
-        folder.mkdir(exist_ok=True)
-        if link := next((it for it in (self.kept, folder) if it.is_symlink()), None):
-            raise OSError(errno.ELOOP, f"{link} is a link, and has to be none")
-        moment = datetime.now(UTC).strftime("%Y%m%dT%H%M%S.%f")
-        return folder / f"{moment}-{words}"
+        """A name for what is written over; nothing has it yet. Raises `OSError` if its folder is a link."""
+        return self._kept.name(unit, words)
+
+    def thin(self) -> None:
+        """Removes what is too much of what was written over."""
+        self._kept.thin()
 
 
 def record(folder: Path, workbench: str, texts: Mapping[str, FileRevision], is_still: Callable[[str], bool]) -> bool:
@@ -237,8 +246,11 @@ def put_common(tables: sqlite3.Connection, unit: str, now: FileRevision, workben
 
 
 def put_former(tables: sqlite3.Connection, unit: str, text: str) -> None:
-    """Records a text that was common."""
-    tables.execute("INSERT OR IGNORE INTO former VALUES (?, ?)", (unit, _digest(text)))
+    """Records a text that was common, in the place of another one, by chance, if there are too many."""
+    its = {"unit": unit, "digest": digest(text)}
+    tables.execute("INSERT OR IGNORE INTO former VALUES (:unit, :digest)", its)
+    there = f"SELECT digest FROM former WHERE unit = :unit ORDER BY digest = :digest DESC, random() LIMIT -1 OFFSET {MOST_FORMER}"
+    tables.execute(f"DELETE FROM former WHERE unit = :unit AND digest IN ({there})", its)
 
 
 def _prepare_tables(tables: sqlite3.Connection, folder: Path) -> None:
@@ -314,7 +326,8 @@ def _is_inside(file: str) -> bool:
     return can_be_unit(path.name) and not path.is_absolute() and not any(map(is_hidden, path.parts))
 
 
-def _digest(text: str) -> bytes:
+def digest(text: str) -> bytes:
+    """By what a text is known again."""
     return sha256(text.encode()).digest()
 
 

@@ -4,11 +4,11 @@ from __future__ import annotations
 import queue
 import threading
 import time
-from collections.abc import Callable
+from collections.abc import Callable, Iterable
 from dataclasses import dataclass
 from typing import Self
 
-from bench61499 import Change, Commit, NoSuchUnit, Put, Session, WorkbenchError
+from bench61499 import UNITS_LIMIT, Change, Commit, NoSuchUnit, Put, Session, WorkbenchError
 from bench61499.mirror import Changed, Connected, Disconnected, Loaded, Mirror, News, Version
 
 ASKED_AFTER = 2.0
@@ -81,11 +81,12 @@ class Team:
         self._ask_for_late()
 
     def _see(self, commit: Commit, caller: str) -> None:
+        _note(self._callers, [*commit.put, *commit.removed], caller)
+        _note(self._removers, commit.removed, caller)
+        self._own.discard(commit.number)
         for unit in (*commit.put, *commit.removed):
-            self._callers[unit] = caller
             if unit in self._awaited and self._awaited[unit].number <= commit.number:
                 del self._awaited[unit]
-        self._removers |= dict.fromkeys(commit.removed, caller)
 
     def _ask_for_late(self) -> None:
         """A unit that came and went while nothing was told is not told at all."""
@@ -148,6 +149,15 @@ class Team:
     def expect(self, unit: str, number: int, is_removal: bool) -> None:
         """Has a unit not known until it is told with this revision or a later one, or as removed after it."""
         self._awaited[unit] = _Awaited(number, is_removal, time.monotonic())
+
+
+def _note(known: dict[str, str], units: Iterable[str], caller: str) -> None:
+    """Takes note of who has changed units, of no more than a workbench can have: names come and go."""
+    for unit in units:
+        known.pop(unit, None)
+        known[unit] = caller
+        if len(known) > UNITS_LIMIT:
+            del known[next(iter(known))]
 
 
 def _named(session: int, editors: set[int]) -> str:

@@ -80,6 +80,8 @@ impl Finished {
         requires { key.value ≡ self.now.key }
         ensures { IfOk result (λ made. made ≡ self.now) }
     {
+        // For the proof: the reads are right for the key.
+        let _reads = self.reads();
         let texts = self.texts().clone()?;
         let value = self.work.value.clone()?;
         let inputs = match self.key().kind.needs_all() {

@@ -1,50 +1,54 @@
 //! Decides, without computing, whether the previous value still holds for what was read.
 ghost use Rattle.std.specs.{Prelude.{◌≡◌, ℕ, List, Bool, true, IfOk}, List.{AllZip}};
-ghost use Rattle.fb_deploy.specs.{Library.View.{mentions_of_tree, tree_of}, Flatten.Hints.{is_whole_net}, Flatten.Net.{plain_net}};
+ghost use Rattle.fb_tree.specs.Mentions.{mentioned};
+ghost use Rattle.fb_deploy.specs.{Flatten.Hints.{is_whole_net}, Flatten.Net.{plain_net}};
 ghost use Rattle.fb_jobs.specs.{Cached.{is_flagged}, Reuse.{AreStillRead, IsStillRead, IsStillText, MentionsTheSame, is_whole_value}};
-ghost use Rattle.fb_jobs.specs.Values.{all_seen, seen_of};
+ghost use Rattle.fb_jobs.specs.Values.{all_seen, seen_of, text_seen};
 
 use crate::kept::cached::flag_at;
 use crate::keys::read::Read;
+use crate::keys::texts::{TextRead, TextReads};
 use crate::values::same::are_equal;
 use crate::values::value::Value;
 use fb_deploy::Deploy;
 use fb_deploy::flatten::{Net, has_same_interface};
 use fb_deploy::parse::Source;
 use fb_text::{Name, same_name};
+use fb_tree::Mentions;
 use std::alloc::{AllocError, Global};
 
-/// Whether both texts mention the same.
-fn mention_the_same(a: &Source, b: &Source) -> bool
-    ensures { result ≡ true
-        → mentions_of_tree (tree_of a.now.text) ≡ mentions_of_tree (tree_of b.now.text) }
+/// Whether both mention the same.
+fn mention_the_same(a: &Mentions, b: &Mentions) -> bool
+    ensures { result ≡ true → mentioned a.now ≡ mentioned b.now }
 {
-    let (a, b) = (a.mentions(), b.mentions());
     a.is_structure == b.is_structure
         && are_equal(&a.parts, &b.parts)
         && are_equal(&a.of_values, &b.of_values)
 }
 
 /// Whether what is read under a name mentions what was mentioned there.
-fn mentions_the_same(before: &Read, now: &Read) -> bool
-    ensures { result ≡ true → MentionsTheSame (seen_of before.now) (seen_of now.now) }
+fn mentions_the_same(before: &TextRead<'_>, now: &Read) -> bool
+    ensures { result ≡ true → MentionsTheSame (text_seen before.now) (seen_of now.now) }
 {
-    match (&before.source, &now.source) {
+    match (before.version, &now.source) {
         (None, None) => true,
-        (Some(before), Some(now)) => mention_the_same(before, now),
+        (Some(before), Some(now)) => mention_the_same(before.text.mentions(), now.mentions()),
         _ => false,
     }
 }
 
 /// Whether this holds at each place.
-pub(crate) fn all_mention_the_same(before: &[Read], now: &[Read]) -> bool
-    ensures { result ≡ true → AllZip MentionsTheSame (all_seen before.now) (all_seen now.now) }
+pub(crate) fn all_mention_the_same(before: &TextReads, now: &[Read]) -> bool
+    ensures { result ≡ true → AllZip MentionsTheSame before.now (all_seen now.now) }
 {
     if before.len() != now.len() {
         return false;
     }
     for place in 0..now.len() {
-        if !mentions_the_same(&before[place], &now[place]) {
+        let Some(read) = before.get(place) else {
+            return false;
+        };
+        if !mentions_the_same(&read, &now[place]) {
             return false;
         }
     }

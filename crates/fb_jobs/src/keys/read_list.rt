@@ -92,6 +92,11 @@ impl ReadList {
         self.versions.len()
     }
 
+    /// Whether there is a name without a text.
+    pub(crate) fn has_absent(&self) -> bool {
+        !self.absent.is_empty()
+    }
+
     /// What was read at a place, counted from 0. It passes over those before it.
     pub(crate) fn get(&self, place: usize) -> Option<TextRead<'_>>
         ensures { option_map text_seen result ≡ slice_get self.now place }

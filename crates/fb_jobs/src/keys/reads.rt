@@ -4,7 +4,6 @@ ghost use Rattle.fb_deploy.specs.Library.Texts.{held};
 ghost use Rattle.fb_jobs.specs.{Again.{AreReads, AreReadUnder}, Keys.{needs}, Reads.{read_names}, Texts.{seen_under, text_of}, Values.{all_seen, seen_of, IsOwn}};
 
 use crate::kept::reuse::all_mention_the_same;
-use crate::keys::inputs::Inputs;
 use crate::keys::key::{Key, Kind};
 use crate::keys::read::Read;
 use crate::keys::read_list::ReadList;
@@ -97,12 +96,15 @@ fn read_all(
 }
 
 /// The names under which these were read.
-fn names_of(alloc: Global, reads: &[Read]) -> Result<Vec<Name>, AllocError>
-    ensures { IfOk result (λ names. names.items ≡ read_names (all_seen reads.now)) }
+fn names_of(alloc: Global, texts: &TextReads) -> Result<Vec<Name>, AllocError>
+    ensures { IfOk result (λ names. names.items ≡ read_names texts.now) }
 {
-    let mut names = Vec::with_capacity(alloc, reads.len())?;
-    for read in reads {
-        names.push(read.name())?;
+    let mut names = Vec::with_capacity(alloc, texts.len())?;
+    for place in 0..texts.len() {
+        match texts.get(place) {
+            Some(read) => names.push(read.name)?,
+            None => unreachable!(),
+        }
     }
     Ok(names)
 }
@@ -112,20 +114,20 @@ fn names_of(alloc: Global, reads: &[Read]) -> Result<Vec<Name>, AllocError>
 fn read_again(
     alloc: Global,
     library: &Library,
-    before: &Inputs,
+    before: &Derivation,
 ) -> Result<Option<(Vec<Read>, ReadList)>, AllocError>
     ensures { IfOk result (λ again. IfSome again
         (λ made. AreReads library.now before.now.key made.0.items made.1)) }
 {
-    let names = names_of(alloc, before.reads())?;
+    let names = names_of(alloc, before.texts())?;
     let (reads, texts) = read_all(alloc, library, &names)?;
-    if !all_mention_the_same(before.reads(), &reads) {
+    if !all_mention_the_same(before.texts(), &reads) {
         return Ok(None);
     }
     Ok(Some((reads, texts)))
 }
 
-/// What a job for the key reads, by the names that were read for it before, if that serves.
+/// What a job for the key reads, by the names that were read for it before, if that serves. Absent names would be counted at each look.
 fn reads_as_before(
     alloc: Global,
     library: &Library,
@@ -138,13 +140,10 @@ fn reads_as_before(
     let Some(derivation) = previous else {
         return Ok(None);
     };
-    let Some(inputs) = derivation.inputs() else {
-        return Ok(None);
-    };
-    if inputs.key() != key {
+    if derivation.key() != key || derivation.texts().has_absent() {
         return Ok(None);
     }
-    read_again(alloc, library, inputs)
+    read_again(alloc, library, derivation)
 }
 
 /// What a job for the key reads, and what is kept of that.

@@ -76,6 +76,11 @@ impl TextReads {
         self.list.len()
     }
 
+    /// Whether there is a name without a text.
+    pub(crate) fn has_absent(&self) -> bool {
+        self.list.has_absent()
+    }
+
     /// What was read at a place, counted from 0. It passes over absent names before it.
     pub fn get(&self, place: usize) -> Option<TextRead<'_>>
         ensures { option_map text_seen result ≡ slice_get self.now place }

@@ -1,6 +1,6 @@
 //! Values with the reads that gave them.
 ghost use Rattle.std.specs.Prelude.{◌≡◌, IfOk, IfSome, Some};
-ghost use Rattle.fb_jobs.specs.{Cached.{some_faults}, Finished.{value_of}, Values.{finding_of}};
+ghost use Rattle.fb_jobs.specs.{Cached.{some_faults}, Finished.{value_of}, Reads.{IsRight}, Values.{finding_of}};
 
 use crate::keys::inputs::Inputs;
 use crate::keys::key::Key;
@@ -51,6 +51,7 @@ impl Derivation {
         value: Arc<Value>,
         inputs: Option<Arc<Inputs>>,
     ) -> Derivation
+        requires right { IsRight (record { key = key.value; reads = texts.value }) }
         requires value { finding_of value.value ≡ value_of (record { key = key.value; reads = texts.value }) }
         requires inputs { IfSome inputs (λ kept. kept.value ≡ record { key = key.value; reads = texts.value }) }
         ensures { result ≡ record { key = key.value; reads = texts.value } }
@@ -95,8 +96,15 @@ impl Derivation {
         }
     }
 
+    pub(crate) fn key(&self) -> Key
+        ensures { result ≡ self.now.key }
+    {
+        *self.key
+    }
+
     pub(crate) fn texts(&self) -> &TextReads
-        ensures { result.now ≡ self.now.reads }
+        ensures same { result.now ≡ self.now.reads }
+        ensures right { IsRight self.now }
     {
         &self.texts
     }

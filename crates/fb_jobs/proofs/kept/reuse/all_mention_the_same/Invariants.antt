@@ -4,4 +4,4 @@ use Rattle.fb_jobs.specs.{Reuse.{MentionsTheSame}, Values.{all_seen}}
 use Rattle.fb_jobs.proofs.kept.reuse.all_mention_the_same.Given as goal
 
 abbrev pub invariant-loop-place : goal.invariant-loop-place
-invariant-loop-place l = AllZip MentionsTheSame (take l.place (all_seen l.before)) (take l.place (all_seen l.now))
+invariant-loop-place l = AllZip MentionsTheSame (take l.place l.before) (take l.place (all_seen l.now))

@@ -1,15 +1,18 @@
 -- One more name.
-use Rattle.std.proofs.{Common.{◌≡◌, ◌+◌, ◌++◌, [], ◌∷◌, List, take, arith, ap, sym, ◌∙◌}, lemmas.Grind.{common_steps}}
-use Rattle.fb_jobs.specs.{Reads.{read_names}, Values.{all_seen}, declared.keys.read.Read.{Read}}
-use Rattle.fb_jobs.proofs.HintLemmas.{names_more}
+use Rattle.std.proofs.{Common.{◌≡◌, ◌+◌, ◌<◌, ◌++◌, [], ◌∷◌, length, take, arith, ap, sym, ◌∙◌}, lemmas.List.{map-append, take_more}, lemmas.Option.{get_or_from_slice_get}}
+use Rattle.std.specs.Option.{option_map}
+use Rattle.fb_jobs.specs.{Reads.{Seen, read_names}, Values.{text_seen}}
 use Rattle.fb_jobs.proofs.keys.reads.names_of.Goals as goal
 
-pub loop-read-preserved : goal.loop-read-preserved
-loop-read-preserved c =
-    let i = c.loop-read.read-index in
-    let read = c.read-item.result in
-    let more : take (i + 1) c.args.reads.now ≡ take i c.args.reads.now ++ read ∷ [] = grind (arith, common_steps) in
-    c.in_ok-push.ensures.items
-    ∙ (λ k. c.loop-read.invariant k ++ c.name.ensures k ∷ [])
-    ∙ sym (names_more (take i c.args.reads.now) read)
-    ∙ ap (λ (rs : List Read). read_names (all_seen rs)) (sym more)
+pub loop-place-preserved : goal.loop-place-preserved
+loop-place-preserved c =
+    let i = c.loop-place.place in
+    let texts = c.args.texts.now in
+    let read : Seen = text_seen c.in-Some.read in
+    let within : i < length texts = omega (arith, c.loop-place-test.true, c.len-place-end.ensures) in
+    let here = get_or_from_slice_get texts i read read (sym c.get.ensures ∙ ap (option_map text_seen) c.in-Some.is) in
+    let more : take (i + 1) texts ≡ take i texts ++ read ∷ [] = take_more texts i read within ∙ ap (λ z. take i texts ++ z ∷ []) here in
+    c.in_ok-push-in-Some.ensures.items
+    ∙ (λ k. c.loop-place.invariant k ++ read.name ∷ [])
+    ∙ sym (map-append (λ (it : Seen). it.name) (take i texts) (read ∷ []))
+    ∙ ap read_names (sym more)

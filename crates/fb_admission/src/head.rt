@@ -1,12 +1,15 @@
 //! The first line of a connection.
-ghost use Rattle.std.specs.Prelude.{◌≡◌, ◌↔◌, IfErr, IfOk, IsTrue, List, MatchOption, None, ℕ};
+ghost use Rattle.std.specs.Prelude.{◌≡◌, ◌↔◌, ◌<◌, ◌≤◌, IfErr, IfOk, IsTrue, List, MatchOption, None, false, is_some, length, ℕ};
 ghost use Rattle.std.specs.List.{position};
-ghost use Rattle.fb_host.specs.Heads.{BeginsRequest, IsFirstLine, ProvesNothing};
-ghost use Rattle.fb_host.specs.Heads.{is_blank, is_feed, is_mark};
+ghost use Rattle.fb_admission.specs.Heads.{BeginsRequest, IsFirstLine, ProvesNothing, ShowsSort};
+ghost use Rattle.fb_admission.specs.Heads.{is_blank, is_feed, is_mark};
 ghost use Rattle.fb_secret.specs.Exchange.{IsAnswer};
 
 use fb_secret::host_answer;
 use std::alloc::{AllocError, Global};
+
+/// How many bytes of a first line are waited for.
+const FIRST_LINE_SIZE: usize = 8_192;
 
 /// The place of the first line feed.
 fn first_feed(bytes: &[u8]) -> Option<usize>
@@ -61,7 +64,7 @@ fn is_blank(byte: u8) -> bool
 }
 
 /// The place of the first byte that is no blank.
-pub(crate) fn first_mark(bytes: &[u8]) -> Option<usize>
+fn first_mark(bytes: &[u8]) -> Option<usize>
     ensures { result ≡ position is_mark bytes.now }
 {
     bytes.iter().position(|byte| !is_blank(*byte))
@@ -74,5 +77,40 @@ pub fn begins_request(bytes: &[u8]) -> bool
     match first_mark(bytes) {
         Some(place) => bytes.get(place).copied() == Some(b'{'),
         None => false,
+    }
+}
+
+/// Whether a line has ended.
+fn has_line(bytes: &[u8]) -> bool
+    ensures { result ≡ is_some (position is_feed bytes.now) }
+{
+    first_feed(bytes).is_some()
+}
+
+/// Whether the bytes show of what sort they are: the first one that is no blank begins no request, or its line has ended.
+fn shows_sort(bytes: &[u8]) -> bool
+    ensures { ShowsSort bytes.now (position is_mark bytes.now) result }
+{
+    match first_mark(bytes) {
+        Some(place) => !begins_request(bytes) || has_line(bytes.split_at(place).1),
+        None => false,
+    }
+}
+
+/// Whether enough was read to check a connection: its first line, or, if there is no secret, the line of its first request, or another first byte.
+pub(crate) fn is_enough(head: &[u8], has_secret: bool) -> bool
+    ensures size { 8192 ≤ length head.now → IsTrue result }
+    ensures secret { length head.now < 8192 → IsTrue has_secret
+        → result ≡ is_some (position is_feed head.now) }
+    ensures open { length head.now < 8192 → has_secret ≡ false
+        → ShowsSort head.now (position is_mark head.now) result }
+{
+    if FIRST_LINE_SIZE <= head.len() {
+        return true;
+    }
+    if has_secret {
+        has_line(head)
+    } else {
+        shows_sort(head)
     }
 }

@@ -1,5 +1,5 @@
 -- What a connection sends first.
-use Rattle.std.specs.Prelude.{◌≡◌, ◌==◌, ◌||◌, ◌+◌, ◌++◌, ℕ, Bool, List, Some, length, not, slice_get}
+use Rattle.std.specs.Prelude.{◌≡◌, ◌==◌, ◌||◌, ◌+◌, ◌++◌, ℕ, Bool, true, false, List, Option, Some, None, drop, is_some, length, not, slice_get}
 use Rattle.std.specs.List.{position}
 use Rattle.fb_secret.specs.Exchange.{IsForeign}
 
@@ -16,6 +16,11 @@ BeginsRequest bytes = (n : ℕ) × (position is_mark bytes ≡ Some n) × (slice
 
 abbrev pub is_feed : ℕ → Bool
 is_feed byte = byte == 10
+
+-- whether bytes, whose first one that is no blank is at this place, show of what sort they are: they begin no request, or its line has ended
+abbrev pub ShowsSort : List ℕ → Option ℕ → Bool → Type 0
+ShowsSort bytes None shown = shown ≡ false
+ShowsSort bytes (Some place) shown = ((BeginsRequest bytes → ⊥) → shown ≡ true) × (BeginsRequest bytes → shown ≡ is_some (position is_feed (drop place bytes)))
 
 -- the line is the bytes up to their first line feed, and it; the rest is what comes after it
 abbrev pub IsFirstLine : (bytes line rest : List ℕ) → Type 0

@@ -1,4 +1,4 @@
-//! The connections for which threads wait.
+//! The connections for which the threads of seats wait.
 ghost use Rattle.std.specs.Prelude.{◌≡◌, ◌+◌, IfSome, None, length};
 
 use crate::connection::Connection;
@@ -6,11 +6,10 @@ use std::alloc::Global;
 use std::sync::{Condvar, Mutex, Wait};
 
 /// Connections for threads that wait for them. One is taken in only if a thread is free, so it never holds more than there are threads, and only up to a
-/// number of all. `freed` wakes who waits for a free thread.
-pub(crate) struct ConnectionQueue {
+/// number of all.
+pub struct ConnectionQueue {
     state: Mutex<QueueState>,
     changed: Condvar,
-    freed: Condvar,
 }
 
 impl Drop for ConnectionQueue {
@@ -18,7 +17,6 @@ impl Drop for ConnectionQueue {
         let Self {
             state: _,
             changed: _,
-            freed: _,
         } = self;
     }
 }
@@ -63,7 +61,7 @@ impl QueueState {
 
 impl ConnectionQueue {
     /// For this number of threads, which are free, and for this number of connections.
-    pub(crate) fn new(alloc: Global, threads: u64, most: u64) -> ConnectionQueue {
+    pub fn new(alloc: Global, threads: u64, most: u64) -> ConnectionQueue {
         let waiting = QueueState {
             connections: Vec::new(alloc),
             idle: threads,
@@ -73,7 +71,6 @@ impl ConnectionQueue {
         ConnectionQueue {
             state: Mutex::new(waiting),
             changed: Condvar::new(),
-            freed: Condvar::new(),
         }
     }
 
@@ -97,19 +94,12 @@ impl ConnectionQueue {
     }
 
     /// A thread that had a connection is free again.
-    pub(crate) fn add_idle<R: Wait>(&self, rt: &R) {
+    pub fn add_idle<R: Wait>(&self, rt: &R) {
         self.state.lock(rt).add_idle();
-        self.freed.notify_all();
-    }
-
-    /// Waits until a thread is free.
-    pub(crate) fn wait_idle<R: Wait>(&self, rt: &R) {
-        let state = self.state.lock(rt);
-        drop(self.freed.wait_while(rt, state, |state| state.idle == 0));
     }
 
     /// Waits for a connection. None if no further one comes.
-    pub(crate) fn next<R: Wait>(&self, rt: &R) -> Option<Connection> {
+    pub fn next<R: Wait>(&self, rt: &R) -> Option<Connection> {
         let mut state = self.state.lock(rt);
         for _ in rt.forever() {
             if let Some(connection) = state.connections.pop() {
@@ -125,7 +115,7 @@ impl ConnectionQueue {
     }
 
     /// No further connection is taken in.
-    pub(crate) fn close<R: Wait>(&self, rt: &R) {
+    pub fn close<R: Wait>(&self, rt: &R) {
         self.state.lock(rt).closed = true;
         self.changed.notify_all();
     }

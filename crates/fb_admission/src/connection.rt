@@ -1,39 +1,60 @@
 //! A connection, with what was read of it.
+use crate::looks::Came;
 use std::alloc::Global;
 use std::io;
 use std::io::{ErrorKind, Read};
 use std::net::TcpStream;
 
-/// A connection, its number in the waiting room, that of its challenge, and the bytes that were read of it and not yet passed on.
+/// A connection, and the bytes that were read of it and not yet passed on.
 #[derive(Drop)]
-pub(crate) struct Connection {
-    pub(crate) stream: TcpStream,
-    pub(crate) number: u64,
-    pub(crate) challenge: u64,
+pub struct Connection {
+    pub stream: TcpStream,
     pub(crate) head: Vec<u8>,
 }
 
 impl Connection {
-    pub(crate) fn new(alloc: Global, stream: TcpStream, number: u64, challenge: u64) -> Connection {
+    pub(crate) fn new(alloc: Global, stream: TcpStream) -> Connection {
         Connection {
             stream,
-            number,
-            challenge,
             head: Vec::new(alloc),
+        }
+    }
+
+    /// Reads what has come since the last look, up to a KiB, without a wait.
+    pub(crate) fn read_some(&mut self) -> Came {
+        let mut buffer = [0; 1_024];
+        let mut stream = &self.stream;
+        let count = match stream.read(&mut buffer) {
+            Ok(count) => count,
+            Err(error) => {
+                return if error.kind() == ErrorKind::WouldBlock {
+                    Came::Nothing
+                } else {
+                    Came::Failure
+                };
+            }
+        };
+        if count == 0 {
+            return Came::End;
+        }
+        match self.head.extend_from_slice(&buffer[..count]) {
+            Ok(()) => Came::Bytes,
+            Err(_) => Came::Failure,
         }
     }
 }
 
 /// Reads the bytes that were read before, and then the stream. It records whether a read waited too long.
 #[derive(Drop)]
-pub(crate) struct ConnectionReader<'a> {
+pub struct ConnectionReader<'a> {
     head: &'a [u8],
     stream: &'a TcpStream,
-    pub(crate) is_idle: bool,
+    pub is_idle: bool,
 }
 
 impl<'a> ConnectionReader<'a> {
-    pub(crate) fn of(connection: &'a Connection) -> ConnectionReader<'a> {
+    /// Nothing is read yet.
+    pub fn of(connection: &'a Connection) -> ConnectionReader<'a> {
         ConnectionReader {
             head: connection.head.as_slice(),
             stream: &connection.stream,

@@ -17,7 +17,7 @@ const MINUTE: u64 = 60_000;
 
 /// A line that is printed.
 #[derive(Clone, Copy)]
-pub(crate) enum Notice {
+pub enum Notice {
     /// The session of a caller ended with an error.
     Failed { caller: u32, error: RunError },
     /// The session of a caller was silent for too long.
@@ -30,7 +30,7 @@ pub(crate) enum Notice {
 
 /// How many connections got no seat, how many of them did not prove the secret, and how many lines were not printed.
 #[derive(Clone, Copy)]
-pub(crate) struct Counts {
+pub struct Counts {
     turned_away: u64,
     wrong_secrets: u64,
     dropped: u64,
@@ -90,7 +90,7 @@ impl NoticeState {
 }
 
 /// The lines that wait for being printed, which threads share.
-pub(crate) struct Notices {
+pub struct Notices {
     state: Mutex<NoticeState>,
     changed: Condvar,
 }
@@ -117,7 +117,8 @@ fn left_of_minute<R: Clock>(rt: &R, since: Option<Instant>) -> Duration {
 }
 
 impl Notices {
-    pub(crate) fn new(alloc: Global) -> Notices {
+    /// Nothing is printed or counted yet.
+    pub fn new(alloc: Global) -> Notices {
         let none = NoticeState {
             lines: Vec::new(alloc),
             counts: Counts::NONE,
@@ -132,7 +133,7 @@ impl Notices {
     }
 
     /// Prints a line soon, unless too many wait.
-    pub(crate) fn add<R: Wait>(&self, rt: &R, notice: Notice) {
+    pub fn add<R: Wait>(&self, rt: &R, notice: Notice) {
         self.state.lock(rt).add(notice);
         self.changed.notify_one();
     }
@@ -184,18 +185,14 @@ impl Notices {
     }
 
     /// No further line comes.
-    pub(crate) fn close<R: Wait>(&self, rt: &R) {
+    pub fn close<R: Wait>(&self, rt: &R) {
         self.state.lock(rt).is_closed = true;
         self.changed.notify_all();
     }
 }
 
 /// Prints the lines as they come, until no further one does.
-pub(crate) fn print_notices<R: Wait + Clock, E: Write>(
-    rt: &R,
-    notices: &Notices,
-    errors: &Mutex<E>,
-) {
+pub fn print_notices<R: Wait + Clock, E: Write>(rt: &R, notices: &Notices, errors: &Mutex<E>) {
     for _ in rt.forever() {
         let Some(notice) = notices.next(rt) else {
             return;

@@ -1,8 +1,8 @@
 use Rattle.std.proofs.Common.{rules, refl}
-use Rattle.fb_host.specs.Heads.{IsFirstLine}
+use Rattle.fb_admission.specs.Heads.{IsFirstLine}
 use Rattle.fb_secret.specs.Exchange.{IsForeign}
-use Rattle.fb_host.proofs.FirstLines.{foreign_line}
-use Rattle.fb_host.proofs.head.take_proof.Goals as goal
+use Rattle.fb_admission.proofs.FirstLines.{foreign_line}
+use Rattle.fb_admission.proofs.head.take_proof.Goals as goal
 
 -- src/head.rt:51:9
 pub returns-in_default-2-clause-proof : goal.returns-in_default-2-clause-proof

@@ -4,7 +4,7 @@ use Rattle.std.specs.Prelude.{take}
 use Rattle.std.specs.List.{position}
 use Rattle.std.proofs.Math.Seq.{take-append_seam}
 use Rattle.fb_secret.specs.Exchange.{IsForeign}
-use Rattle.fb_host.specs.Heads.{IsFirstLine, ProvesNothing, is_feed}
+use Rattle.fb_admission.specs.Heads.{IsFirstLine, ProvesNothing, is_feed}
 
 some_is : (n m : ℕ) → Some n ≡ Some m → n ≡ m
 some_is n m is = cc
