@@ -1,9 +1,11 @@
 //! Admission: one thread takes connections in as they come, reads the first line of each, and hands those that may come in to the threads of seats.
+ghost use Rattle.std.specs.Prelude.{◌≡◌, []};
+
 use crate::arrivals::{Arrival, Arrivals};
 use crate::connection::Connection;
 use crate::connection_queue::ConnectionQueue;
 use crate::head::{begins_request, is_enough, take_proof};
-use crate::looks::{Fate, Step, at_once, fate_of, next_step};
+use crate::looks::{Came, Fate, Step, at_once, fate_of, next_step};
 use crate::notices::Notices;
 use fb_secret::{challenge, challenge_line};
 use fb_serve::pause;
@@ -83,7 +85,10 @@ impl<'r, 'e, 's, R: Wait + Clock> Admission<'r, 'e, 's, R> {
         alloc: Global,
         entrance: &'e Entrance,
         secret: &'s [u8],
-    ) -> Admission<'r, 'e, 's, R> {
+    ) -> Admission<'r, 'e, 's, R>
+        ensures none { result.arrivals.waiting.items ≡ [] }
+        ensures most { result.arrivals.most ≡ entrance.now.config.first_lines }
+    {
         Admission {
             rt,
             alloc,
@@ -112,7 +117,9 @@ impl<'r, 'e, 's, R: Wait + Clock> Admission<'r, 'e, 's, R> {
     }
 
     /// Closes the connections that still wait, and those that are refused once they have read why.
-    pub fn end(&mut self) {
+    pub fn end(&mut self)
+        ensures { self.new.arrivals.waiting.items ≡ [] }
+    {
         let rt = self.rt;
         for _ in rt.forever() {
             if self.arrivals.len() == 0 {
@@ -244,28 +251,38 @@ impl<'r, 'e, 's, R: Wait + Clock> Admission<'r, 'e, 's, R> {
     fn look_at_all(&mut self) {
         thread::sleep(self.rt, Duration::from_millis(PAUSE));
         let now = Instant::now(self.rt).ok();
+        let timeout = self.first_line_timeout();
         for _ in 0..self.arrivals.len() {
             let Some(arrival) = self.arrivals.take_first() else {
                 return;
             };
-            if let Some(arrival) = self.look_at(arrival, now) {
+            if let Some(arrival) = self.look_at(arrival, now, timeout) {
                 let back = self.arrivals.add(arrival);
                 self.drop_counted(back);
             }
         }
     }
 
-    /// Looks at a connection. It gives the connection if that waits on, or may still read that there is no seat.
-    fn look_at(&self, arrival: Arrival, now: Option<Instant>) -> Option<Arrival> {
+    /// Looks at a connection, which may take this number of milliseconds to send its first line. It gives the connection if that waits on, or may still read that
+    /// there is no seat.
+    fn look_at(
+        &self,
+        arrival: Arrival,
+        now: Option<Instant>,
+        first_line_timeout: u64,
+    ) -> Option<Arrival> {
         let mut arrival = arrival;
         if arrival.is_refused {
             // What it still sends is not kept.
             arrival.connection.head.clear();
         }
         let came = arrival.connection.read_some();
-        let has_enough = is_enough(&arrival.connection.head, !self.secret.is_empty());
-        let is_enough = has_enough && !arrival.is_refused;
-        let timeout = self.timeout(arrival.is_refused);
+        let is_enough = !arrival.is_refused && self.has_enough(came, &arrival.connection);
+        let timeout = if arrival.is_refused {
+            REFUSAL_TIMEOUT
+        } else {
+            first_line_timeout
+        };
         match fate_of(came, is_enough, passed(arrival.since, now), timeout) {
             Fate::Waits => Some(arrival),
             Fate::IsChecked => self.check(arrival),
@@ -276,11 +293,14 @@ impl<'r, 'e, 's, R: Wait + Clock> Admission<'r, 'e, 's, R> {
         }
     }
 
-    /// How many milliseconds a connection may be there. Once the last session has begun, nobody has time for a first line.
-    fn timeout(&self, is_refused: bool) -> u64 {
-        if is_refused {
-            REFUSAL_TIMEOUT
-        } else if self.entrance.seats.left(self.rt) == 0 {
+    /// Whether enough was read to check a connection. If nothing has come, it is as at the last look: too little.
+    fn has_enough(&self, came: Came, connection: &Connection) -> bool {
+        came == Came::Bytes && is_enough(&connection.head, !self.secret.is_empty())
+    }
+
+    /// How many milliseconds a connection may take to send its first line. Once the last session has begun, nobody has time for one.
+    fn first_line_timeout(&self) -> u64 {
+        if self.entrance.seats.left(self.rt) == 0 {
             0
         } else {
             self.entrance.config.first_line_timeout

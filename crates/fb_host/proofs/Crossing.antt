@@ -67,6 +67,12 @@ last_release_send = search (last_release_field_send, crosses, sendable) depth 60
 pace_field_sync : IsSync (Pace.the_field).row
 pace_field_sync = search (commit_table_send, last_release_send, crosses, sendable) depth 60 fits 20000
 
+pub receipt_store_sync : IsSync ReceiptStore.the_row
+receipt_store_sync = search (receipt_store_field_sync, crosses, sendable) depth 60 fits 20000
+
+pub pace_sync : IsSync Pace.the_row
+pace_sync = search (pace_field_sync, crosses, sendable) depth 60 fits 20000
+
 config_field_sync : IsSync (HostConfig.the_field).row
 config_field_sync = search (crosses, sendable) depth 60 fits 20000
 

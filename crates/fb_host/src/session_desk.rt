@@ -75,8 +75,8 @@ impl<'a, R: Wait> SessionDesk<'a, R> {
 }
 
 impl<R: Wait + Clock> Desk for SessionDesk<'_, R> {
-    ghost use Rattle.std.specs.Prelude.{◌≡◌, Err, None, Ok, true};
-    ghost use Rattle.fb_locked.specs.Bench.Calls.{ServesCheckpoint, ServesRead};
+    ghost use Rattle.std.specs.Prelude.{◌≡◌, Err, IfOk, None, Ok, true};
+    ghost use Rattle.fb_locked.specs.Bench.{Calls.{Fits, Serves, ServesCheckpoint, ServesRead}, Requests.{call_for, reply_in}};
     ghost use Rattle.fb_shared.specs.UnderLock.{IsBehind};
     ghost use Rattle.fb_host.specs.HostSessions.{IsHostCall, IsHostCheckpoint, IsHostRead};
 
@@ -92,7 +92,13 @@ impl<R: Wait + Clock> Desk for SessionDesk<'_, R> {
         true
     }
 
-    fn perform(&mut self, request: &Request<'_>) -> Result<Answered, DeskError> {
+    #[tactic(auto, using(fb_shared::proofs::Refusals::behind_named))]
+    fn perform(&mut self, request: &Request<'_>) -> Result<Answered, DeskError>
+        ensures fits { IfOk result (λ answer. Fits (call_for request.now) (reply_in answer)) }
+        ensures step { Serves IsHostCall self.old (call_for request.now) reply_in result
+            self.new }
+        ensures behind { result ≡ Err DeskError.Behind → IsBehind self.old.seated.seat }
+    {
         let (rt, shared, caller) = (self.seated.rt, self.shared, self.seated.seat.caller());
         let turn = self.pace.await_turn(rt, shared, caller, request);
         let counting = self.pace.begin_count(rt, shared, request);

@@ -165,9 +165,6 @@ module _ (old a new : UsersByName) (unit : List ℕ) (was now : List (List ℕ))
       all : (other n : List ℕ) → uses new other n ≡ steps (is_at (name_cmp unit) other) (set.contains name_cmp after n) (set.contains name_cmp before n) (uses old other n) (has_name was n) (has_name now n)
       all other n = put other n ∙ ap (λ x. x || (is_at (name_cmp unit) other && (has_name now n && not (set.contains name_cmp before n)))) (out other n)
 
-pub same_mentioned : (a b : Mentioned) → a.parts ≡ b.parts → a.of_values ≡ b.of_values → a.is_structure ≡ b.is_structure → a ≡ b
-same_mentioned a b parts of_values is_structure = λ i. record { parts = parts i; of_values = of_values i; is_structure = is_structure i }
-
 -- ---- the marks
 
 found : (b c : Bool) (o : Option Bool) → b ≡ true → cond b (Some c) o ≡ Some c

@@ -10,7 +10,7 @@ ghost use Rattle.fb_index.specs.Near.{carrying_on, mentioning, CarriesSome, Near
 use crate::users::Users;
 use fb_library::{Table, names_of, open_new};
 use fb_text::{Name, sorted_names};
-use fb_tree::Mentions;
+use fb_tree::{Mentions, mention_the_same};
 use std::alloc::{AllocError, Global};
 use std::collections::BTreeSet;
 use std::marker::Model;
@@ -82,7 +82,7 @@ impl Tables {
         ensures ok { OnOk result (IsReplaced self.old unit (mentioned new.now) self.new) }
         ensures err { OnErr result (self.new ≡ self.old) }
     {
-        if self.is_indexed(&unit) && are_same(old, new) {
+        if self.is_indexed(&unit) && mention_the_same(old, new) {
             return Ok(());
         }
         let mut tables = self.copy()?;
@@ -252,20 +252,4 @@ impl Tables {
         let users = self.of_values.under(alloc, name)?;
         open_new(users.as_slice(), seen, pending)
     }
-}
-
-/// Whether both mention the same.
-#[tactic(auto, using(crate::proofs::Lookups::same_mentioned))]
-fn are_same(a: &Mentions, b: &Mentions) -> bool
-    ensures { (result ≡ true) → mentioned a.now ≡ mentioned b.now }
-{
-    a.is_structure == b.is_structure
-        && are_same_names(a.parts.as_slice(), b.parts.as_slice())
-        && are_same_names(a.of_values.as_slice(), b.of_values.as_slice())
-}
-
-fn are_same_names(a: &[Name], b: &[Name]) -> bool
-    ensures { (result ≡ true) → a.now ≡ b.now }
-{
-    a == b
 }

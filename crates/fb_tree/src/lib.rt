@@ -25,7 +25,7 @@ pub use expression::{BinaryOperator, BinaryUse, Expr, UnaryOperator, UnaryUse};
 pub use interface::{Event, Interface, Section, Side, TypeForm, TypeUse, Variables};
 pub use kinds::{UnitKind, kind};
 pub use mention::mentions;
-pub use mentioned::{Mentions, mentions_of};
+pub use mentioned::{Mentions, mention_the_same, mentions_of};
 pub use network::{Connection, End, Instance, Network, Parameter, Role, Sort};
 pub use reference::{Member, Reference, ReferenceNames};
 pub use statement::{Counting, Stmt};

@@ -2,7 +2,7 @@
 
 ghost use Rattle.fb_text.specs.Elementary.{is_elementary};
 ghost use Rattle.fb_tree.specs.{Mentions.{all_mentions_of, is_structure_tree, mentioned, value_types, values_of}, Tree.{decl_tree}};
-ghost use Rattle.std.specs.Prelude.{◌≡◌, IfOk, filter, map, not};
+ghost use Rattle.std.specs.Prelude.{◌≡◌, ◌↔◌, true, IfOk, filter, map, not};
 
 use crate::declaration::Decl;
 use crate::interface::Variables;
@@ -28,6 +28,23 @@ impl Drop for Mentions {
             is_structure: _,
         } = self;
     }
+}
+
+/// Whether both mention the same, and both are structures or neither is.
+#[tactic(auto, using(crate::proofs::MentionLemmas::same_mentioned))]
+pub fn mention_the_same(a: &Mentions, b: &Mentions) -> bool
+    ensures same { result ≡ true → mentioned a.now ≡ mentioned b.now }
+    ensures all { mentioned a.now ≡ mentioned b.now → result ≡ true }
+{
+    a.is_structure == b.is_structure
+        && are_same_names(a.parts.as_slice(), b.parts.as_slice())
+        && are_same_names(a.of_values.as_slice(), b.of_values.as_slice())
+}
+
+fn are_same_names(a: &[Name], b: &[Name]) -> bool
+    ensures { (result ≡ true) ↔ (a.now ≡ b.now) }
+{
+    a == b
 }
 
 /// What a declaration mentions.

@@ -9,7 +9,7 @@ use fb_iface::is_same_side;
 use fb_iface::parse::{Body, Source};
 use fb_network::{Port, is_same_sort};
 use fb_tree::text::{Name, same_name};
-use fb_tree::{Decl, Mentions};
+use fb_tree::{Decl, mention_the_same};
 use std::alloc::{AllocError, Global};
 
 fn is_same_adapter(a: &Option<Name>, b: &Option<Name>) -> bool
@@ -48,20 +48,6 @@ fn are_same_ports(a: &[Port], b: &[Port]) -> bool
     true
 }
 
-fn are_same_names(a: &[Name], b: &[Name]) -> bool
-    ensures { result ≡ true → a.now ≡ b.now }
-{
-    if a.len() != b.len() {
-        return false;
-    }
-    for place in 0..a.len() {
-        if !same_name(&a[place], &b[place]) {
-            return false;
-        }
-    }
-    true
-}
-
 /// Whether both declare a block type, with the same ports.
 fn are_interchangeable_blocks(alloc: Global, a: &Decl, b: &Decl) -> Result<bool, AllocError>
     ensures says { IfOk result (λ are. are ≡ true
@@ -77,13 +63,6 @@ fn are_interchangeable_blocks(alloc: Global, a: &Decl, b: &Decl) -> Result<bool,
         }
         _ => Ok(false),
     }
-}
-
-fn mention_the_same(a: &Mentions, b: &Mentions) -> bool
-    ensures parts { result ≡ true → a.now.parts.items ≡ b.now.parts.items }
-    ensures values { result ≡ true → a.now.of_values.items ≡ b.now.of_values.items }
-{
-    are_same_names(&a.parts, &b.parts) && are_same_names(&a.of_values, &b.of_values)
 }
 
 /// Whether both texts declare a block type, with the same ports and the same mentions. Then no net of what rests on one of them shows which

@@ -120,34 +120,6 @@ leave 0 to 2
 3 leaves
 "#;
 
-// Who reaches few keys waits for nothing: what was committed first is still pending after the last of twelve commits.
-const COLLEAGUES: &str = r#"
-== A colleague commits twelve times beside one whose commits reach many keys / connections 2 / sessions 2 / workers 1 / units 1000 / history 100000 / calls any
-0 uses 2
-1 asks {"op":"commit","changes":[{"put":"ZZ","base":0,"text":"FUNCTION_BLOCK ZZ EVENT_INPUT E WITH X; END_EVENT END_FUNCTION_BLOCK"}]} => {"commit":3}
-1 asks {"op":"commit","changes":[{"put":"Z0","base":0,"text":"FUNCTION_BLOCK Z0 END_FUNCTION_BLOCK"}]} => {"commit":4}
-1 asks {"op":"commit","changes":[{"put":"Z1","base":0,"text":"FUNCTION_BLOCK Z1 END_FUNCTION_BLOCK"}]} => {"commit":5}
-1 asks {"op":"commit","changes":[{"put":"Z2","base":0,"text":"FUNCTION_BLOCK Z2 END_FUNCTION_BLOCK"}]} => {"commit":6}
-1 asks {"op":"commit","changes":[{"put":"Z3","base":0,"text":"FUNCTION_BLOCK Z3 END_FUNCTION_BLOCK"}]} => {"commit":7}
-1 asks {"op":"commit","changes":[{"put":"Z4","base":0,"text":"FUNCTION_BLOCK Z4 END_FUNCTION_BLOCK"}]} => {"commit":8}
-1 asks {"op":"commit","changes":[{"put":"Z5","base":0,"text":"FUNCTION_BLOCK Z5 END_FUNCTION_BLOCK"}]} => {"commit":9}
-1 asks {"op":"commit","changes":[{"put":"Z6","base":0,"text":"FUNCTION_BLOCK Z6 END_FUNCTION_BLOCK"}]} => {"commit":10}
-1 asks {"op":"commit","changes":[{"put":"Z7","base":0,"text":"FUNCTION_BLOCK Z7 END_FUNCTION_BLOCK"}]} => {"commit":11}
-1 asks {"op":"commit","changes":[{"put":"Z8","base":0,"text":"FUNCTION_BLOCK Z8 END_FUNCTION_BLOCK"}]} => {"commit":12}
-1 asks {"op":"commit","changes":[{"put":"Z9","base":0,"text":"FUNCTION_BLOCK Z9 END_FUNCTION_BLOCK"}]} => {"commit":13}
-1 asks {"op":"commit","changes":[{"put":"Z10","base":0,"text":"FUNCTION_BLOCK Z10 END_FUNCTION_BLOCK"}]} => {"commit":14}
-1 asks {"op":"peek","kind":"faults","unit":"ZZ"} => {"answer":"pending"}
-leave 0 to 1
-
-== A colleague commits while another's commits reach many keys / connections 2 / sessions 2 / workers 1 / units 1000 / history 100000 / calls any
-0 uses 2
-0 adds 8 from 0
-1 puts 12
-1 asks {"op":"peek","kind":"faults","unit":"M9"} => {"answer":"pending"}
-0 reads 8
-leave 0 to 1
-"#;
-
 const GRABS: &str = r#"
 == A session takes a key again that it has kept for too long / connections 3 / sessions 2 / key 1000 / workers 1 / units 1000 / history 100000 / calls any
 0 uses 1
@@ -179,11 +151,6 @@ leave 0 to 1
 #[test]
 fn who_commits_without_end_waits_for_the_workers(rt: HostRuntime) -> Result<(), Fail> {
     compare(&rt, rt.alloc(), FLOODS)
-}
-
-#[test]
-fn a_colleague_waits_for_nobody(rt: HostRuntime) -> Result<(), Fail> {
-    compare(&rt, rt.alloc(), COLLEAGUES)
 }
 
 #[test]

@@ -4,6 +4,8 @@
 #[cfg(test)]
 mod admission;
 #[cfg(test)]
+mod colleagues;
+#[cfg(test)]
 mod crowds;
 #[cfg(test)]
 mod epochs;

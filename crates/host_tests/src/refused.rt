@@ -9,7 +9,7 @@ use fb_shared::Shared;
 use fb_wire::bench::Limits;
 use fb_wire::{IntoWrite, MemoryFeed, RunEnd};
 use refusing::{each_refused, refuse, report, was_refused};
-use std::alloc::Global;
+use std::alloc::{AllocError, Global};
 use std::io::Print;
 use std::sync::Wait;
 use std::test::Fail;
@@ -81,14 +81,14 @@ const SHOWN: &str =
 
 /// How a session ended, what it replied, and whether an allocation was refused.
 #[derive(Drop)]
-struct Session {
+pub(crate) struct Session {
     end: RunEnd,
     output: Vec<u8>,
     is_refused: bool,
 }
 
-// A session says the lines, of which the allocation of this number is refused; what it leaves in hand goes back. What it writes has room.
-fn say_lines<R: Wait + Clock>(
+/// A session says the lines, of which the allocation of this number is refused; what it still holds goes back. What it writes has room.
+pub(crate) fn say_lines<R: Wait + Clock>(
     rt: &R,
     alloc: Global,
     shared: &Shared,
@@ -97,7 +97,7 @@ fn say_lines<R: Wait + Clock>(
     state: CallerState,
     requests: &str,
     number: u32,
-) -> Result<(CallerState, Session), Fail> {
+) -> Result<(CallerState, Session), AllocError> {
     let mut output = Vec::with_capacity(alloc, 1000)?;
     let mut feed = MemoryFeed::new(requests.as_bytes(), 8192, u64::MAX);
     let mut sink = IntoWrite::new(&mut output);
@@ -120,8 +120,8 @@ fn say_lines<R: Wait + Clock>(
     Ok((state, session))
 }
 
-// Whether a session whose replies are these may end so.
-fn is_right(session: &Session, replies: &str) -> bool {
+/// Whether a session whose replies are these may end so.
+pub(crate) fn is_right(session: &Session, replies: &str) -> bool {
     match session.end {
         RunEnd::End => session.output.as_slice() == replies.as_bytes(),
         RunEnd::Memory => replies.as_bytes().starts_with(session.output.as_slice()),

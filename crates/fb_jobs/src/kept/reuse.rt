@@ -1,6 +1,5 @@
 //! Decides, without computing, whether the previous value still holds for what was read.
 ghost use Rattle.std.specs.{Prelude.{◌≡◌, ℕ, List, Bool, true, IfOk}, List.{AllZip}};
-ghost use Rattle.fb_tree.specs.Mentions.{mentioned};
 ghost use Rattle.fb_deploy.specs.{Flatten.Hints.{is_whole_net}, Flatten.Net.{plain_net}};
 ghost use Rattle.fb_jobs.specs.{Cached.{is_flagged}, Reuse.{AreStillRead, IsStillRead, IsStillText, MentionsTheSame, is_whole_value}};
 ghost use Rattle.fb_jobs.specs.Values.{all_seen, seen_of, text_seen};
@@ -8,23 +7,13 @@ ghost use Rattle.fb_jobs.specs.Values.{all_seen, seen_of, text_seen};
 use crate::kept::cached::flag_at;
 use crate::keys::read::Read;
 use crate::keys::texts::{TextRead, TextReads};
-use crate::values::same::are_equal;
 use crate::values::value::Value;
 use fb_deploy::Deploy;
 use fb_deploy::flatten::{Net, has_same_interface};
 use fb_deploy::parse::Source;
 use fb_text::{Name, same_name};
-use fb_tree::Mentions;
+use fb_tree::mention_the_same;
 use std::alloc::{AllocError, Global};
-
-/// Whether both mention the same.
-fn mention_the_same(a: &Mentions, b: &Mentions) -> bool
-    ensures { result ≡ true → mentioned a.now ≡ mentioned b.now }
-{
-    a.is_structure == b.is_structure
-        && are_equal(&a.parts, &b.parts)
-        && are_equal(&a.of_values, &b.of_values)
-}
 
 /// Whether what is read under a name mentions what was mentioned there.
 fn mentions_the_same(before: &TextRead<'_>, now: &Read) -> bool

@@ -1,6 +1,6 @@
 -- Equal slices have the same names.
 use Rattle.std.proofs.{Common.{refl}, lemmas.Slice.Eq.{slice_eq-Decides}, lemmas.Bool.Decides.{Decides-eqb}}
-use Rattle.fb_index.proofs.tables.are_same_names.Goals as goal
+use Rattle.fb_tree.proofs.mentioned.are_same_names.Goals as goal
 
 pub returns : goal.returns
-returns c = λ t. (slice_eq-Decides (λ a b. slice_eq-Decides Decides-eqb a b _ refl) _ _ _ c.eq.ensures).0 t
+returns c = slice_eq-Decides (λ a b. slice_eq-Decides Decides-eqb a b _ refl) _ _ _ c.eq.ensures
