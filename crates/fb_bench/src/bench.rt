@@ -3,11 +3,14 @@ ghost use Rattle.std.specs.Prelude.{◌≡◌};
 ghost use Rattle.fb_entries.specs.{Jobs.Reads.{stale, is_current}, Jobs.Values.{all_seen, seen_of}};
 ghost use Rattle.fb_bench.specs.Records.{job_in};
 
+mod state;
+
 use crate::answers::{Answered, Taken};
-use crate::commit::{Outcome, first_changes, outcome_of, record_with_room};
+use crate::commit::{Outcome, Present, RecordedCall, first_changes, outcome_of, record_with_room};
 use crate::found::{keep_all, shares_of};
 use crate::peek::Shown;
 use crate::request::{Request, call_of_result, reply_of_job};
+use crate::stale::first_stale;
 use fb_entries::index::Index;
 use fb_entries::jobs::{Finished, Job, Key, Read, current_nets, current_reads, locality};
 use fb_entries::library::{Change, Library, Spot};
@@ -87,114 +90,11 @@ impl Bench {
         }
     }
 
-    /// What the history begins from. The law of entries (`entries_follow_the_texts`) holds of it.
-    pub fn start(&self) -> &Start
-        ensures same { result.now ≡ self.now.origin }
-        ensures begins { IsOrigin result.now }
-    {
-        self.history.start()
-    }
-
-    /// How many calls came before the start.
-    pub fn before(&self) -> u64
-        ensures { result ≡ self.now.origin.before }
-    {
-        self.history.before()
-    }
-
-    /// How many calls are recorded since the start. Each stored answer is the one that the machine gives there.
-    pub fn len(&self) -> usize
-        ensures len { result ≡ length self.now.log.records }
-        ensures replayed { IsReplay self.now }
-        ensures turns { AreTurns self.now }
-    {
-        self.history.len()
-    }
-
-    /// The number of the last call, those before the start included, or 0.
-    pub fn last_number(&self) -> u64
-        ensures last { result ≡ last_number self.now }
-        ensures fits { self.now.origin.before + self.now.log.limit < 2 ^ 64 }
-    {
-        self.history.last_number()
-    }
-
-    /// Whether the history has the number of calls that the limits allow.
-    pub fn is_full(&self) -> bool
-        ensures { IsTrue result ↔ IsFull self.now.log }
-    {
-        self.history.is_full()
-    }
-
     /// Whether there is something to take: a key that is pending and not handed out.
     pub fn has_work(&self) -> bool
         ensures { result ≡ is_some (next (state_of self.now)) }
     {
         self.next().is_some()
-    }
-
-    /// The record of this number, counted over all calls from 1: None for a call before the start, and past the end.
-    pub fn record(&self, number: u64) -> Option<&Record>
-        ensures { option_map (λ it. it.now) result ≡ record_numbered self.now number }
-    {
-        self.history.record(number)
-    }
-
-    /// The same, to be shared.
-    pub(crate) fn shared_record(&self, number: u64) -> Option<&Arc<Record>>
-        ensures { option_map (λ it. it.now.value) result ≡ record_numbered self.now number }
-    {
-        self.history.shared_record(number)
-    }
-
-    /// The number of the last call that is an event for those who watch, those before the start included, or 0.
-    pub fn last_event(&self) -> u64
-        ensures { result ≡ last_event_of self.now }
-    {
-        self.history.last_event()
-    }
-
-    /// How many recorded calls the caller has made, those before the start included.
-    pub fn turns_of(&self, caller: u32) -> u64
-        ensures { result ≡ all_turns self.now caller }
-    {
-        self.history.turns_of(caller)
-    }
-
-    /// How many recorded calls each caller has made, those before the start included, by rising caller.
-    pub fn pages(&self) -> &BTreeMap<u32, u64>
-        ensures { result.now.entries ≡ pages_after self.now.origin.pages self.now.log.records }
-    {
-        self.history.pages()
-    }
-
-    /// How many keys the last commit that was done has marked as pending, those that were pending already included; 0 before the first. No answer depends on
-    /// it: a server keeps the pace of its sessions by it.
-    pub fn reached(&self) -> u64 {
-        self.reached
-    }
-
-    /// How many keys the present texts have.
-    pub fn key_count(&self) -> usize
-        ensures { result ≡ length (keys_of (state_of self.now).units) }
-    {
-        self.entries.len()
-    }
-
-    /// The key at a place, counted from 0, by kind and then by name. It passes over those before it.
-    pub fn key_at(&self, place: usize) -> Option<Key>
-        ensures key { result ≡ slice_get (keys_of (state_of self.now).units) place }
-        ensures ordered { IsStrictlySortedBy key_cmp (keys_of (state_of self.now).units) }
-    {
-        self.entries.key_at(place)
-    }
-
-    /// How many keys are pending.
-    pub fn pending_count(&self) -> usize
-        ensures { result ≡ count_by (state_of self.now).pending
-            (keys_of (state_of self.now).units) }
-    {
-        self.entries.pending_count()
     }
 
     /// What is known of a key: what is answered, and what is recorded, with a share of the key.
@@ -291,38 +191,6 @@ impl Bench {
                 Some(kept) => Ok(Asked::Value(kept.value().clone()?)),
             },
         }
-    }
-
-    pub(crate) fn alloc(&self) -> Global {
-        self.alloc
-    }
-
-    /// How many commits were good.
-    pub(crate) fn commits(&self) -> u64
-        ensures { result ≡ (state_of self.now).commits }
-    {
-        self.commits
-    }
-
-    /// The present texts.
-    pub(crate) fn library(&self) -> &Library
-        ensures { result.now ≡ (state_of self.now).units }
-    {
-        &self.library
-    }
-
-    /// The revision of a unit, or 0 if it is absent.
-    pub fn revision(&self, unit: &Name) -> u64
-        ensures { result ≡ revision_of (held (state_of self.now).units unit.now) }
-    {
-        self.library.revision(unit)
-    }
-
-    /// What the units of the present texts mention, by which a commit finds what it reaches.
-    pub fn index(&self) -> &Index
-        ensures { IsIndexOf (state_of self.now).units result.now }
-    {
-        &self.index
     }
 
     /// The least key that is pending and not handed out.
@@ -432,15 +300,12 @@ impl Bench {
         let most_units = self.history.most_units();
         let changes = first_changes(changes);
         let call = Call::Commit(TextChange::of_changes(self.alloc, changes)?);
-        let outcome = outcome_of(
-            self.alloc,
-            most_units,
-            number,
-            &self.library,
-            &self.index,
-            &self.entries,
-            changes,
-        )?;
+        let present = Present {
+            library: &self.library,
+            index: &self.index,
+            entries: &self.entries,
+        };
+        let outcome = outcome_of(self.alloc, most_units, number, &present, changes)?;
         match outcome {
             Outcome::Refused(refused) => {
                 let stored = Reply::of_commit(self.alloc, refused)?;
@@ -449,14 +314,17 @@ impl Bench {
             }
             Outcome::Done { library, found } => {
                 let stored = Reply::of_commit(self.alloc, Committed::Done(number))?;
+                let recorded = RecordedCall {
+                    caller,
+                    call,
+                    answer: stored,
+                };
                 let share = record_with_room(
                     self.alloc,
                     &mut self.entries,
                     &mut self.history,
                     &found.renewal,
-                    caller,
-                    call,
-                    stored,
+                    recorded,
                 )?;
                 self.reached = found.renewal.renewed.len() as u64;
                 self.index = self.entries.carry_out(found);
@@ -804,30 +672,5 @@ impl Bench {
                 }
             }
         }
-    }
-}
-
-/// The first read that is not as the library has it.
-fn first_stale(library: &Library, reads: &[Read]) -> Option<Name>
-    ensures { result ≡ stale library.now (all_seen reads.now) }
-{
-    let mut spot = Spot::first();
-    for read in reads {
-        if !is_current(library, read, &mut spot) {
-            return Some(read.name());
-        }
-    }
-    None
-}
-
-/// Whether the unit is absent now as then, or present with the same revision and the same text.
-fn is_current(library: &Library, read: &Read, spot: &mut Spot) -> bool
-    ensures { result ≡ is_current library.now (seen_of read.now) }
-{
-    match (library.filed_near(&read.name(), spot), &read.source) {
-        (None, None) => true,
-        (Some(now), Some(then)) => now.revision() == read.revision
-            && now.source().text() == then.text(),
-        _ => false,
     }
 }

@@ -113,20 +113,31 @@ pub(crate) enum Outcome {
     },
 }
 
+/// What a commit is judged by: the present texts, what their units mention, and what is known of their keys.
+#[derive(Clone, Copy)]
+pub(crate) struct Present<'a> {
+    pub(crate) library: &'a Library,
+    pub(crate) index: &'a Index,
+    pub(crate) entries: &'a Entries,
+}
+
 /// The result of the changes; `number` is that of the commit, if it is done.
 pub(crate) fn outcome_of(
     alloc: Global,
     most_units: u64,
     number: u64,
-    library: &Library,
-    index: &Index,
-    entries: &Entries,
+    present: &Present<'_>,
     changes: &[Change],
 ) -> Result<Outcome, AllocError>
-    requires { IsIndexOf library.now index.now }
-    ensures { IfOk result
-        (IsOutcome most_units number library.now (edits_of changes.now) entries.now) }
+    requires { IsIndexOf present.now.library.now present.now.index.now }
+    ensures { IfOk result (IsOutcome most_units number present.now.library.now
+        (edits_of changes.now) present.now.entries.now) }
 {
+    let Present {
+        library,
+        index,
+        entries,
+    } = *present;
     if let Some(refused) = refusal(library, changes) {
         return Ok(Outcome::Refused(refused));
     }
@@ -141,25 +152,36 @@ pub(crate) fn outcome_of(
     })
 }
 
+/// A call that is to be recorded: who makes it, and what it is answered.
+#[derive(Drop)]
+pub(crate) struct RecordedCall {
+    pub(crate) caller: u32,
+    pub(crate) call: Call,
+    pub(crate) answer: Reply,
+}
+
 /// Records a commit that is done, with room for the entries and marks that it brings, or leaves all unchanged.
 pub(crate) fn record_with_room(
     alloc: Global,
     entries: &mut Entries,
     history: &mut History,
     renewal: &Renewal,
-    caller: u32,
-    call: Call,
-    answer: Reply,
+    recorded: RecordedCall,
 ) -> Result<Arc<Record>, AllocError>
     requires { length history.old.log.records < history.old.log.limit }
     ensures room { OnOk result (HasRoom renewal.now entries.old entries.new) }
     ensures back { OnErr result (IsTakenBack renewal.now entries.old entries.new) }
-    ensures logged { OnOk result
-        (history.new ≡ logged history.old caller (call_of call) (reply_of answer)) }
-    ensures share { IfOk result
-        (λ it. it.value ≡ record_after history.old caller (call_of call) (reply_of answer)) }
+    ensures logged { OnOk result (history.new ≡ logged history.old recorded.caller
+        (call_of recorded.call) (reply_of recorded.answer)) }
+    ensures share { IfOk result (λ it. it.value ≡ record_after history.old recorded.caller
+        (call_of recorded.call) (reply_of recorded.answer)) }
     ensures unlogged { OnErr result (history.new ≡ history.old) }
 {
+    let RecordedCall {
+        caller,
+        call,
+        answer,
+    } = recorded;
     entries.make_room(alloc, renewal)?;
     match history.push(caller, call, answer) {
         Ok(share) => Ok(share),

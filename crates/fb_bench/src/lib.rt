@@ -10,6 +10,7 @@ mod peek;
 mod read;
 mod request;
 mod snapshot;
+mod stale;
 
 pub use answers::{Answered, Taken};
 pub use bench::Bench;

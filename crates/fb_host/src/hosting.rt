@@ -119,6 +119,12 @@ fn host_sessions<R: Threads + Wait + Clock + Sync, E: Write + Send>(
     close(rt, alloc, shared, receipts, results)
 }
 
+/// Prints that memory or a thread was not to be had: the host has not begun, or lacks receipts at the end.
+fn print_lack<R: Wait, E: Write>(rt: &R, errors: &Mutex<E>) {
+    let mut errors = errors.lock(rt);
+    let _ = writeln!(&mut *errors, "bench61499: the host lacks memory or threads");
+}
+
 /// Prints its address, hosts its sessions, and prints that it is closed.
 fn host_and_close<R: Threads + Wait + Clock + Sync, S: Sink, E: Write + Send>(
     rt: &R,
@@ -142,6 +148,7 @@ fn host_and_close<R: Threads + Wait + Clock + Sync, S: Sink, E: Write + Send>(
         return Err(NotServed);
     };
     let Ok(served) = host_sessions(rt, alloc, listener, config, secret, errors) else {
+        print_lack(rt, errors);
         return Err(NotServed);
     };
     match write_all(out, b"closed\n") {
