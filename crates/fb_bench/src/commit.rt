@@ -113,7 +113,7 @@ pub(crate) enum Outcome {
     },
 }
 
-/// What a commit is judged by: the present texts, what their units mention, and what is known of their keys.
+/// What a commit is checked by: the present texts, what their units mention, and what is known of their keys.
 #[derive(Clone, Copy)]
 pub(crate) struct Present<'a> {
     pub(crate) library: &'a Library,
@@ -152,7 +152,7 @@ pub(crate) fn outcome_of(
     })
 }
 
-/// A call that is to be recorded: who makes it, and what it is answered.
+/// A call before it is recorded: who makes it, and what it is answered.
 #[derive(Drop)]
 pub(crate) struct RecordedCall {
     pub(crate) caller: u32,

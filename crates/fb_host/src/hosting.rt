@@ -119,7 +119,7 @@ fn host_sessions<R: Threads + Wait + Clock + Sync, E: Write + Send>(
     close(rt, alloc, shared, receipts, results)
 }
 
-/// Prints that memory or a thread was not to be had: the host has not begun, or lacks receipts at the end.
+/// Prints that memory or a thread was refused: the host has not begun, or lacks receipts at the end.
 fn print_lack<R: Wait, E: Write>(rt: &R, errors: &Mutex<E>) {
     let mut errors = errors.lock(rt);
     let _ = writeln!(&mut *errors, "bench61499: the host lacks memory or threads");

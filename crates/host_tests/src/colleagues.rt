@@ -29,7 +29,7 @@ fn commit(alloc: Global, unit: &str, first: usize, count: usize) -> Result<Strin
     Ok(line)
 }
 
-// This number of commits of so many new units each.
+// This number of commits, each with this number of new units.
 fn commits(alloc: Global, unit: &str, times: usize, count: usize) -> Result<String, AllocError> {
     let mut lines = String::new(alloc);
     for number in 0..times {
