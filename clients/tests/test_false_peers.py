@@ -8,17 +8,18 @@ import threading
 import unittest
 from collections.abc import Callable, Iterable, Iterator
 from contextlib import contextmanager, suppress
-from itertools import count, repeat
+from itertools import count, islice, repeat
 from pathlib import Path
 from typing import Any
 from unittest.mock import patch
 
-from support import CLIENTS, GREETING, answering, hosting, run, workbench
+from support import CLIENTS, GREETING, answering, forget_secret, hosting, run, workbench
 from tapping import false_host
 
 from bench61499 import BadReply, Change, ConnectionEnded, NoAnswer, NoResult, Put, Session, StaleBase
 from bench61499.language.units import Misuse, Unit, commit_units
 from bench61499.session import REPLY_LIMIT
+from bench61499.snapshot import ROUNDS
 
 WAIT = 20
 """Seconds after which a program that has to end has not done so."""
@@ -110,6 +111,30 @@ class ServerTest(unittest.TestCase):
         page = b'{"at":1,"units":[["A",1]]}\n'
         with answering(GREETING, page, page, page) as port, Session.connect("127.0.0.1", port) as session:
             self.assertRaises(BadReply, session.units)
+
+    def test_a_server_that_always_has_more_to_tell_is_given_up(self) -> None:
+        status = {"workbench": "F" * 32, "session": 1, "calls": 1, "commits": 0, "units": 0, "keys": 0, "pending": 0}
+        told = count(2)
+
+        def answer(asked: dict[str, Any]) -> dict[str, Any]:
+            replies = {"deliver": {"refused": "NoSuchJob"}, "status": {"status": status}, "units": {"at": 1, "units": []}}
+            return replies.get(asked["op"]) or {"at": next(told), "events": []}
+
+        def serve(listener: socket.socket) -> None:
+            connection, _ = listener.accept()
+            with connection, connection.makefile("rb") as lines, suppress(OSError):
+                for line in islice(lines, 5 * ROUNDS):
+                    connection.sendall(json.dumps(answer(json.loads(line))).encode() + b"\n")
+
+        with socket.create_server(("127.0.0.1", 0)) as listener:
+            port = listener.getsockname()[1]
+            forget_secret(port)
+            thread = threading.Thread(target=serve, args=(listener,))
+            thread.start()
+            ran = run("check", "--connect", f":{port}", "--patience", 2)
+            thread.join()
+        self.assertEqual((ran.returncode, ran.stdout), (2, ""))
+        self.assertRegex(ran.stderr, "^check: the workbench tells of further calls without end: neither 10,000 replies nor 2 seconds suffice to catch up with it\n$")
 
     def test_who_is_refused_again_and_again_gives_up(self) -> None:
         """Two that put one folder over another each, or a server that always refuses."""

@@ -7,13 +7,16 @@
 """
 from __future__ import annotations
 
+import time
 from collections.abc import Callable, Iterable
 from typing import Any
 
-from bench61499.session import BadReply, Commit, Event, Key, Result, Session, Text, Waits, Watched
+from bench61499.session import BadReply, Commit, Event, Key, NoResult, Result, Session, Text, Waits, Watched
 
 LOOK = 5.0
 """Seconds that it waits at once for a value that is being computed."""
+ROUNDS = 10_000
+"""Replies by which it catches up with what has happened, at most: a host tells of some 200 calls by each."""
 
 
 class Snapshot:
@@ -61,13 +64,21 @@ class Snapshot:
         self._at, self.texts = listed.at, self._session.texts(it.unit for it in listed.units)
 
     def _news(self, wait: float) -> Watched:
-        """All that has happened since the last news, however many replies report it; waits so long for it if nothing has."""
+        """All that has happened since the last news, however many replies report it; waits so long for it if nothing has.
+
+        Raises `NoResult` if it does not catch up: what answers may be no workbench.
+        """
         events: list[Event] = []
         at, news = self._at, self._session.watch(self._at, wait)
-        while news.at > at and not news.missed:
+        end = time.monotonic() + self._session.patience
+        for _ in range(ROUNDS):
+            if news.at == at or news.missed:
+                return Watched(news.at, tuple(events), news.missed)
+            if time.monotonic() > end:
+                break
             events += news.events
             at, news = news.at, self._session.watch(news.at)
-        return Watched(news.at, tuple(events), news.missed)
+        raise NoResult(f"the workbench tells of further calls without end: neither {ROUNDS:,} replies nor {self._session.patience:g} seconds suffice to catch up with it")
 
     def _follow(self, news: Watched) -> bool:
         """Brings the texts up to date; gives whether there were commits, each of which can have changed any value."""
