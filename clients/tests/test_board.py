@@ -173,11 +173,9 @@ os._exit(child.wait() and 1)
             viewer.settled(len(STATES))
             subprocess.run(["kill", "-KILL", (self.folder / "child").read_text()], check=True)
             viewer.until(lambda it: it.ended)
-            self.assertEqual(viewer.ended, "the workbench ended before it answered (status 1)")
-        self.assertIn(
-            "board: the workbench ended before it answered (status 1); the page shows what was there before, until Ctrl-C",
-            at.process.stderr.readline(),
-        )
+            why = viewer.ended
+        self.assertEqual(why, "the workbench ended before it answered (status 1); perhaps it needs more memory than its limit of 2 GiB: --memory-limit raises it")
+        self.assertIn(f"board: {why}; the page shows what was there before, until Ctrl-C", at.process.stderr.readline())
         with at.viewer() as late:
             late.until(lambda it: it.ended)
             self.assertEqual(late.units.keys(), STATES)

@@ -229,7 +229,8 @@ class TroubleTest(InFolder):
         self.refused("argument FOLDER.FILE: an empty word names no file or folder", "")
 
     def test_a_workbench_that_dies(self):
-        self.refused(r"^check: the workbench ended before it answered \(status 5\)\n$", "--program", self.program("sys.exit(5)"))
+        why = r"the workbench ended before it answered \(status 5\); perhaps it needs more memory than its limit of 2 GiB: --memory-limit raises it"
+        self.refused(f"^check: {why}\n$", "--program", self.program("sys.exit(5)"))
 
     def test_a_workbench_that_talks_nonsense(self):
         program = self.program("sys.stdin.readline(); print('Welcome!', flush=True); sys.stdin.read()")

@@ -13,6 +13,8 @@ from pathlib import Path
 from unittest.mock import patch
 from xml.etree import ElementTree
 
+from boards import board
+from editing import Editor
 from support import InFolder, run, until, workbench
 
 from bench61499 import ConnectionEnded, NoWorkbench, OutOfMemory, Put, Session
@@ -163,6 +165,23 @@ class LimitTest(InFolder):
             with Session.script(program) as session, self.assertRaises(ConnectionEnded) as ended:
                 session.work(1)
             self.assertNotIsInstance(ended.exception, OutOfMemory)
+
+    def test_an_end_without_a_word(self) -> None:
+        """As of a workbench whose limit is too low for one."""
+        program, file = self.program("sys.stdin.readline(); sys.exit(1)"), self.write("BAD.fb", BAD)
+        why = "the workbench ended before it answered (status 1)"
+        raising = f"{why}; perhaps it needs more memory than its limit of 64 MiB: --memory-limit raises it"
+        for limit, told in ((LIMIT, raising), ("none", why)):
+            for words in (["check", file], ["plan", "BAD", "--files", file]):
+                ran = run(*words, "--program", program, "--memory-limit", limit)
+                self.assertEqual((ran.returncode, ran.stdout, ran.stderr), (2, "", f"{words[0]}: {told}\n"))
+        with board(file, "--memory-limit", LIMIT, program=program) as at:
+            self.assertEqual(at.process.stderr.readline(), f"board: {raising}; the page shows what was there before, until Ctrl-C\n")
+        editor = Editor("--program", program, "--memory-limit", LIMIT)
+        self.addCleanup(editor.close)
+        editor.start(self.folder)
+        editor.open(file)
+        self.assertEqual(editor.await_message(), f"bench61499: {raising}; save to try again")
 
     def test_a_call_that_needs_more(self) -> None:
         with Session.script(workbench(), memory=1_000_000) as session:

@@ -93,6 +93,12 @@ class OutOfMemory(ConnectionEnded):
         self.limit = limit
 
 
+def why_ended(status: int, limit: int | None) -> str:
+    """What is to be said of a workbench that was started and has ended with this status: it says nothing itself if its limit of memory is too low for that."""
+    needs = f"; perhaps it needs more memory than its limit of {amount(limit)}: --memory-limit raises it" if limit and status else ""
+    return f"the workbench ended before it answered (status {status}){needs}"
+
+
 class NoSecret(NoWorkbench):
     """A `host` has a secret, and the client has none, or none that may be used."""
 
@@ -728,7 +734,7 @@ class _Pipes:
         self.close()
         if self._said.lacks_memory:
             return OutOfMemory(self._limit)
-        return ConnectionEnded(f"the workbench ended before it answered (status {self._process.returncode})")
+        return ConnectionEnded(why_ended(self._process.returncode, self._limit))
 
     def close(self) -> None:
         try:
