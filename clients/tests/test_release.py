@@ -12,7 +12,9 @@ import sys
 import tarfile
 import tomllib
 import unittest
+from contextlib import ExitStack
 from functools import cache
+from itertools import pairwise
 from pathlib import Path
 
 from support import CLIENTS, CONVEYOR, InFolder, run, until, workbench
@@ -238,6 +240,13 @@ def faults_of_unit(printed: str) -> list[str]:
     return [it for it in printed.splitlines() if "Command /usr/local/bin/bench61499 is not executable" not in it]
 
 
+def arenas_of(process: int) -> int:
+    """The arenas of malloc beside the main one: each reserves 64 MiB at a multiple of that, of which it uses the front."""
+    size = 2**26
+    spans = [(int(begin, 16), int(end, 16), uses) for begin, end, uses in re.findall(r"^(\w+)-(\w+) (\S+)", Path(f"/proc/{process}/maps").read_text(), re.M)]
+    return sum(not front[0] % size and front[1] == rest[0] and not rest[1] % size and rest[2] == "---p" for front, rest in pairwise(spans))
+
+
 class WordsTest(InFolder):
     """Man page, completions, unit and Dockerfile against the help of the program."""
 
@@ -330,6 +339,22 @@ class WordsTest(InFolder):
             with Session.connect("127.0.0.1", port, secret=self.secret().read_text().strip()) as session:
                 self.assertEqual(session.commit([Put("A", 0, "")]), 1)
             host.terminate()
+
+    def test_threads_share_the_arenas_of_malloc(self) -> None:
+        """Each of many threads would have its own, which keeps the memory of its peak."""
+        container = (PACKAGING / "Dockerfile").read_text()
+        for found in (re.findall(r"^Environment=(\w+)=(\w+)$", UNIT.read_text(), re.M), re.findall(r"^ENV (\w+)=(\w+)$", container, re.M)):
+            self.assertEqual(self.arenas(dict(found)), 1)
+
+    def arenas(self, surroundings: dict[str, str]) -> int:
+        """Those of a host with nine sessions, started in these surroundings."""
+        words, secret = [workbench(), "host", "--port", "0", "--sessions", "9", "--secret", str(self.secret())], self.secret().read_text().strip()
+        with subprocess.Popen(words, stdout=subprocess.PIPE, text=True, env={**PLAIN, **surroundings}) as host, ExitStack() as opened:
+            opened.callback(host.terminate)
+            port = int(host.stdout.readline().rpartition(":")[2])
+            for _ in range(9):
+                opened.enter_context(Session.connect("127.0.0.1", port, secret=secret)).status()
+            return arenas_of(host.pid)
 
     @unittest.skipUnless(shutil.which("systemd-analyze"), "systemd is not installed")
     def test_systemd_takes_the_unit(self) -> None:
