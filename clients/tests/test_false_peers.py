@@ -117,7 +117,7 @@ class ServerTest(unittest.TestCase):
         told = count(2)
 
         def answer(asked: dict[str, Any]) -> dict[str, Any]:
-            replies = {"deliver": {"refused": "NoSuchJob"}, "status": {"status": status}, "units": {"at": 1, "units": []}}
+            replies: dict[str, dict[str, Any]] = {"deliver": {"refused": "NoSuchJob"}, "status": {"status": status}, "units": {"at": 1, "units": []}}
             return replies.get(asked["op"]) or {"at": next(told), "events": []}
 
         def serve(listener: socket.socket) -> None:

@@ -15,7 +15,7 @@ from xml.etree import ElementTree
 
 from boards import board
 from editing import Editor
-from support import InFolder, run, until, workbench
+from support import InFolder, hosting, run, until, workbench
 
 from bench61499 import ConnectionEnded, NoWorkbench, OutOfMemory, Put, Session
 from bench61499.memory import MEMORY_LIMIT, amount, amount_in
@@ -118,6 +118,34 @@ def data_of(process: int) -> int:
     return 1024 * int(re.search(r"^VmData:\s+(\d+) kB$", Path(f"/proc/{process}/status").read_text(encoding="utf-8"), re.M)[1])
 
 
+VAST = "the network has more than 200,000 blocks and links, which clients do not read"
+
+
+class VastTest(InFolder):
+    """A network of 2,002 blocks and 200,200 links, of three texts; a million links would take 1 GB in a client."""
+
+    def setUp(self) -> None:
+        super().setUp()
+        sides = " ".join(f"EVENT_{side} {' '.join(f'{side}{at};' for at in range(200))} END_EVENT" for side in ("INPUT", "OUTPUT"))
+        links = " ".join(f"X.OUTPUT{at} TO Y.INPUT{at};" for at in range(200))
+        self.write("B.fb", f"FUNCTION_BLOCK B {sides} END_FUNCTION_BLOCK")
+        self.write("P.fb", f"SUBAPPLICATION P FBS X : B; Y : B; END_FBS EVENT_CONNECTIONS {links} END_CONNECTIONS END_SUBAPPLICATION")
+        self.write("Q.fb", f"SUBAPPLICATION Q SUBAPPS {' '.join(f'P{at} : P;' for at in range(1_001))} END_SUBAPPS END_SUBAPPLICATION")
+
+    def test_networks_that_no_client_reads(self) -> None:
+        with hosting() as port:
+            ran = run("check", ".", "--connect", f":{port}", "--replace", "--plans", folder=self.folder)
+            self.assertEqual(ran.returncode, 0, ran.stderr)
+            for client, *words in (["draw", "Q"], ["trace", "Q", "P1.X.OUTPUT1"]):
+                for which in (["--files", ".", "--program", workbench()], ["--connect", f":{port}"]):
+                    ran = run(client, *words, *which, folder=self.folder)
+                    self.assertEqual((ran.returncode, ran.stdout, ran.stderr), (2, "", f"{client}: {VAST}\n"))
+            with board("--connect", f":{port}") as at, at.viewer() as viewer:
+                at.json("/net", name="Q", aspect="1")
+                viewer.until(lambda it: ("net", "Q") in it.answers and it.answers["net", "Q"][1])
+                self.assertEqual([at.json("/net", name="Q", aspect="1").get(it) for it in ("state", "why")], ["refused", VAST])
+
+
 class LimitTest(InFolder):
     TELLS = "import os, resource; sys.stdin.readline(); print('{\"data\":%d}' % resource.getrlimit(resource.RLIMIT_DATA)[0], flush=True); sys.stdin.readline()"
 
@@ -172,9 +200,9 @@ class LimitTest(InFolder):
         why = "the workbench ended before it answered (status 1)"
         raising = f"{why}; perhaps it needs more memory than its limit of 64 MiB: --memory-limit raises it"
         for limit, told in ((LIMIT, raising), ("none", why)):
-            for words in (["check", file], ["plan", "BAD", "--files", file]):
-                ran = run(*words, "--program", program, "--memory-limit", limit)
-                self.assertEqual((ran.returncode, ran.stdout, ran.stderr), (2, "", f"{words[0]}: {told}\n"))
+            for client, *words in (["check", str(file)], ["plan", "BAD", "--files", str(file)]):
+                ran = run(client, *words, "--program", program, "--memory-limit", limit)
+                self.assertEqual((ran.returncode, ran.stdout, ran.stderr), (2, "", f"{client}: {told}\n"))
         with board(file, "--memory-limit", LIMIT, program=program) as at:
             self.assertEqual(at.process.stderr.readline(), f"board: {raising}; the page shows what was there before, until Ctrl-C\n")
         editor = Editor("--program", program, "--memory-limit", LIMIT)

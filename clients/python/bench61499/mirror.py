@@ -41,7 +41,7 @@ from typing import Any, NamedTuple, Self
 
 from bench61499.session import (
     LONGEST_WATCH, BadReply, Commit, ConnectionEnded, Event, Key, Kind, NoAnswer, NoSuchUnit, Result, Revisions, Session, Status, Text,
-    WorkbenchError, pauses,
+    TooManyParts, WorkbenchError, pauses,
 )
 
 WATCH = LONGEST_WATCH - 5
@@ -98,7 +98,7 @@ class Changed:
 
 @dataclass(frozen=True)
 class Came:
-    """The value of a key is another one: `NoKey` if there is none, None if it is being computed. `before` is the one that was known."""
+    """The value of a key is another one: `NoKey` if there is none, None if it is being computed, `TooManyParts` if it is not read. `before` is the one that was known."""
 
     kind: Kind
     unit: str
@@ -496,6 +496,9 @@ class Mirror:
 
 
 def _peeked(session: Session, keys: Iterable[Key]) -> dict[Key, Any]:
-    """The values of keys, None for one that is pending."""
+    """The values of keys, None for one that is pending, and the error for one that has too many parts."""
     its = list(keys)
-    return dict.fromkeys(its, NoKey()) | session.peek_all(its)
+    try:
+        return dict.fromkeys(its, NoKey()) | session.peek_all(its)
+    except TooManyParts as error:
+        return {its[0]: error} if len(its) == 1 else {key: value for it in its for key, value in _peeked(session, [it]).items()}

@@ -34,6 +34,8 @@ HISTORY_LIMIT = 10_000_000
 
 REPLY_LIMIT = 268_435_456
 """Bytes of one reply line: more than any plant of sense has, and the most that a false server can have a client keep."""
+PARTS_LIMIT = 200_000
+"""Blocks and links of a network, or commands of a plan, that a client reads: a million would take 1 GB."""
 
 PATIENCE = 60.0
 """Seconds that whoever waits for values waits without a further one, by default."""
@@ -52,6 +54,7 @@ _NO_REVISION = 2**64 - 1
 _HIGHEST = 2**63 - 1
 _TURNS = 100
 _THERE: dict[str, Any] = {}
+_NET, _PLAN = b'{"net":{"blocks":', b'{"deploy":{"cuts":'
 _MOST_REFUSALS = 1_000
 _GREETING_REQUEST = {"op": "deliver", "job": 1}
 _FIRST_PAUSE, _LONGEST_PAUSE = 0.01, 0.25
@@ -125,6 +128,13 @@ class BadReply(WorkbenchError):
     def __init__(self, line: bytes):
         super().__init__(f"the workbench sent a reply that makes no sense: {_shortened(line)}")
         self.line = line
+
+
+class TooManyParts(WorkbenchError):
+    """A network or a plan has more than `PARTS_LIMIT` parts, and was not read. The session goes on."""
+
+    def __init__(self, what: str, parts: str):
+        super().__init__(f"the {what} has more than {PARTS_LIMIT:,} {parts}, which clients do not read")
 
 
 class RequestTooLong(WorkbenchError):
@@ -531,12 +541,17 @@ def _brief_reader(kind: Kind) -> Callable[[dict[str, Any]], Any]:
 
 
 def _decode(answer: bytes) -> Any:
+    """A reply. Raises `TooManyParts` for a network or a plan that would take too much memory, before it is read."""
+    if answer.startswith(_NET) and answer.count(b"[") > PARTS_LIMIT:
+        raise TooManyParts("network", "blocks and links")
+    if answer.startswith(_PLAN) and answer.count(b'","') > PARTS_LIMIT:
+        raise TooManyParts("plan", "commands")
     return json.loads(answer)
 
 
 def _decode_briefly(answer: bytes) -> Any:
     """A reply, decoded if it is no network or plan that is there. Replies are compact, and their members are in order."""
-    return _THERE if answer.startswith((b'{"net":{"blocks":', b'{"deploy":{"cuts":')) else _decode(answer)
+    return _THERE if answer.startswith((_NET, _PLAN)) else _decode(answer)
 
 
 def _present(read: Callable[[dict[str, Any]], Value]) -> Callable[[dict[str, Any]], tuple[Value]]:
@@ -1120,15 +1135,15 @@ class Session:
             self._channel.send(b"".join(_line(request) + b"\n" for request, _ in some))
             replies = [self._refused_or(request, read, decode) for request, read in some]  # All are taken before one of them raises.
             for it in replies:
-                if isinstance(it, Refused) and not isinstance(it, absent):
+                if isinstance(it, (Refused, TooManyParts)) and not isinstance(it, absent):
                     raise it
-                found.append(None if isinstance(it, Refused) else it)
+                found.append(None if isinstance(it, (Refused, TooManyParts)) else it)
         return found
 
-    def _refused_or(self, request: dict[str, Any], read: Callable[[dict[str, Any]], Value], decode: Callable[[bytes], Any]) -> Value | Refused:
+    def _refused_or(self, request: dict[str, Any], read: Callable[[dict[str, Any]], Value], decode: Callable[[bytes], Any]) -> Value | Refused | TooManyParts:
         try:
             return self._reply(read, request, decode=decode)
-        except Refused as refusal:
+        except (Refused, TooManyParts) as refusal:
             return refusal
 
     def work(self, turns: int) -> int:

@@ -6,8 +6,8 @@ import time
 from collections.abc import Callable, Iterable
 from typing import Any
 
-from bench61499 import Session
-from bench61499.board.state import Board, Key, NoEntry, Revised, Source, Value
+from bench61499 import Session, TooManyParts
+from bench61499.board.state import Board, Key, NoEntry, NotAnswered, Revised, Source, Value
 from bench61499.mirror import Came, Changed, Connected, Disconnected, Loaded, Mirror, News, NoKey
 
 TELL_LOADED = 0.25
@@ -131,4 +131,6 @@ def _source(text: str | None, revision: int) -> Source | None:
 
 
 def _value(value: Any) -> Value | None:
+    if isinstance(value, TooManyParts):
+        return NotAnswered(str(value))
     return NoEntry() if isinstance(value, NoKey) else value

@@ -7,8 +7,8 @@ from dataclasses import replace
 from typing import Protocol
 
 from bench61499 import (
-    CHANGES_LIMIT, Blocked, Change, Fault, Flat, HistoryFull, NoSuchKey, Put, Recursive, Refused, Remove, Session, Stopped, WorkbenchError, batches,
-    pauses,
+    CHANGES_LIMIT, Blocked, Change, Fault, Flat, HistoryFull, NoSuchKey, Put, Recursive, Refused, Remove, Session, Stopped, TooManyParts,
+    WorkbenchError, batches, pauses,
 )
 from bench61499.board.state import Board, Key, NoEntry, NotAnswered, Revised, Row, Source, Value
 from bench61499.language.folder import Folder
@@ -154,8 +154,8 @@ class Asking:
             return NoEntry()
         except HistoryFull:
             raise
-        except Refused as refusal:
-            return NotAnswered(str(refusal))
+        except (Refused, TooManyParts) as error:
+            return NotAnswered(str(error))
 
     def _count(self, calls: int) -> None:
         self.board.count_calls(calls)

@@ -5,7 +5,7 @@ import argparse
 import sys
 import time
 
-from bench61499 import NoSuchKey, Result, Session, WorkbenchError, pauses
+from bench61499 import NoSuchKey, Result, Session, TooManyParts, WorkbenchError, pauses
 from bench61499.cli.command import add_server, fail, open_once, open_reading, program, read_path, tell
 from bench61499.cli.version import add_version
 from bench61499.language.names import printable
@@ -92,6 +92,8 @@ class Log:
             print(printable(told_value(event.kind, event.unit, session.peek(event.kind, event.unit))))
         except NoSuchKey:
             return  # It was removed since.
+        except TooManyParts as error:
+            print(f"{event.unit}: {error}")
 
     def follow(self, session: Session, options: argparse.Namespace, since: Since | None = None) -> None:
         """Prints what has happened since the last time, if given what that is, and continues as long as the connection lasts."""
