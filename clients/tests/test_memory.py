@@ -78,6 +78,22 @@ class ChainTest(InFolder):
             ran = run(client, "U_9", "--files", "plant", "--program", workbench(), "--memory-limit", LIMIT, folder=self.folder)
             self.assertEqual((ran.returncode, ran.stdout, ran.stderr), (2, "", f"{client}: {LACK}\n"))
 
+    def test_a_board_computes_no_network_unasked(self) -> None:
+        with board("plant", "--memory-limit", LIMIT, folder=self.folder) as at, at.viewer() as viewer:
+            viewer.settled(UNITS + 2)
+            self.assertEqual({unit for unit, it in viewer.units.items() if it["state"] != "fine"}, {"BAD"})
+            self.assertEqual((viewer.problems, viewer.ended), ([], ""))
+            # One that somebody opens is what the memory does not suffice for. The faults stay.
+            at.json("/net", name="U_9", aspect="1")
+            viewer.until(lambda it: it.problems)
+            told = f"networks and plans are not known until a file changes: {LACK}"
+            self.assertEqual((viewer.problems, at.process.stderr.readline()), ([told], f"board: {told}\n"))
+            viewer.until(lambda it: it.answers["net", "U_9"][1]).settled(UNITS + 2)
+            self.assertEqual([at.json("/net", name="U_9", aspect="1").get(it) for it in ("state", "why")], ["refused", told])
+            (self.folder / "plant" / "BAD.fb").unlink()
+            viewer.until(lambda it: it.states() == {"fine", "absent"})
+            self.assertEqual((viewer.state("BAD"), viewer.ended), ("absent", ""))
+
     def test_texts_that_are_too_much(self) -> None:
         ran = self.check("--memory-limit", "300K")
         self.assertEqual((ran.returncode, ran.stdout, ran.stderr), (2, "", f"check: {LACK.replace('64 MiB', '300 KiB')}\n"))

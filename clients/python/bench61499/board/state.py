@@ -86,7 +86,7 @@ class Row:
             return "faulty"
         if self.faults is None or self.is_system and self.deploy is None:
             return "pending"
-        return "noplan" if isinstance(self.deploy, (Faulty, Stopped)) else "fine"
+        return "noplan" if isinstance(self.deploy, (Faulty, Stopped, NotAnswered)) else "fine"
 
     @property
     def name(self) -> str:
@@ -129,8 +129,10 @@ def plan_in_words(deploy: Value | None) -> str:
             return "no plan: too many instances"
         case Faulty(misplaced):
             return f"no plan: {counted(len(misplaced), 'wrong or missing mapping')}"
-        case NoEntry() | NotAnswered():
+        case NoEntry():
             return "no plan"
+        case NotAnswered():
+            return "the plan is not known"
     return ""
 
 

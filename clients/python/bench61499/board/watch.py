@@ -7,7 +7,7 @@ from dataclasses import replace
 from typing import Protocol
 
 from bench61499 import (
-    CHANGES_LIMIT, Blocked, Change, Fault, Flat, HistoryFull, NoSuchKey, Put, Recursive, Refused, Remove, Session, Stopped, TooManyParts,
+    CHANGES_LIMIT, Blocked, Change, Fault, Flat, HistoryFull, NoSuchKey, OutOfMemory, Put, Recursive, Refused, Remove, Session, Stopped, TooManyParts,
     WorkbenchError, batches, pauses,
 )
 from bench61499.board.state import Board, Key, NoEntry, NotAnswered, Revised, Row, Source, Value
@@ -162,15 +162,20 @@ class Asking:
 
 
 class FolderWatch(Asking):
-    """A workbench of the board's own. It holds the units of a folder, and changes as the files do."""
+    """A workbench of the board's own. It holds the units of a folder, and changes as the files do.
 
-    def __init__(self, board: Board, session: Session, folder: Folder):
+    Networks and plans are computed only if somebody looks at one, or at the page, whose list has the plans of systems. If the memory of the workbench does not suffice for
+    them, another one that `open_again` starts has the faults alone, until a file changes; `say` tells the user.
+    """
+
+    def __init__(self, board: Board, session: Session, folder: Folder, open_again: Callable[[], Session], say: Callable[[str], object]):
         super().__init__(board, session)
-        self._folder = folder
+        self._folder, self._open_again, self._say = folder, open_again, say
         self._held: dict[str, Unit] = {}
         self._waiting: list[str] = []
         self._next_look = self._next_beat = 0.0
         self._jobs_left = False
+        self._lack = ""
 
     def start(self) -> None:
         self._folder.look()
@@ -178,27 +183,56 @@ class FolderWatch(Asking):
         self._next_look = time.monotonic() + LOOK_AT_FILES
 
     def step(self) -> float:
+        try:
+            return self._step()
+        except OutOfMemory as error:
+            if self._lack:
+                raise  # It does not suffice for the faults either.
+            self._begin_again(error)
+            return 0
+
+    def _step(self) -> float:
         now = time.monotonic()
         if now >= self._next_look:
             if self._folder.look():
                 self._bring(told=True)
             self._next_look = time.monotonic() + max(LOOK_AT_FILES, 10 * (time.monotonic() - now))
-        if self._jobs_left:
+        if self._waiting:
+            self._find_faults()
+        elif self._has_work():
             done = self.session.work(TURNS)
             self._count(2 * done + 1)
             self._jobs_left = done == TURNS
-            self._ask_faults()
         elif now >= self._next_beat:
             self._next_beat = now + HEARTBEAT
             self.is_there()
         all_there = self.ask_wishes()
-        if self._jobs_left:
+        if self._waiting or self._has_work():
             return 0
-        all_there = self.ask_plans() and all_there
+        if self.board.has_viewers():
+            all_there = self.ask_plans() and all_there
         return max(0, self._next_look - time.monotonic()) if all_there else SHORT_PAUSE
+
+    def _has_work(self) -> bool:
+        """Whether there are networks and plans to compute at which somebody looks."""
+        return self._jobs_left and bool(self.board.open_wishes() or self._plans and self.board.has_viewers())
+
+    def _begin_again(self, error: OutOfMemory) -> None:
+        """Continues with the faults alone, of another workbench."""
+        self.session = self._open_again()
+        self._held = {}
+        self._bring(told=False)
+        self._jobs_left, self._lack = False, f"networks and plans are not known until a file changes: {error}"
+        self.board.tell_problems((*self._folder.problems, self._lack))
+        self._say(self._lack)
+
+    def _value(self, key: Key) -> Value | None:
+        value = super()._value(key)
+        return NotAnswered(self._lack) if value is None and self._lack else value
 
     def _bring(self, told: bool) -> None:
         """Commits what has changed of the files."""
+        self._lack = ""
         self.board.tell_problems(self._folder.problems)
         units = self._folder.units
         changed = {name: unit for name, unit in units.items() if self._held.get(name) != unit}
@@ -229,19 +263,15 @@ class FolderWatch(Asking):
         units = {**self._held, **self._folder.units}
         return str(units[batch[0].unit].file) if len(batch) == 1 else f"{len(batch)} files"
 
-    def _ask_faults(self) -> None:
-        """Asks for the faults that are found by now. The workbench finds them in the order of the names, and this session alone has it work."""
-        found = {}
-        for at, unit in enumerate(self._waiting):
-            self._count(1)
-            faults = self.session.faults(unit)
-            if faults is None:
-                self._waiting = self._waiting[at:]
-                break
-            found[unit] = faults
-        else:
-            self._waiting = []
-        self.board.found(found)
+    def _find_faults(self) -> None:
+        """Asks for some faults, and has as many jobs done as are pending: the workbench finds faults before it computes networks, and this session alone has it work."""
+        asked, rest = self._waiting[: 2 * TURNS], self._waiting[2 * TURNS :]
+        found = self.session.ask_all(("faults", unit) for unit in asked)
+        pending = [unit for (_, unit), faults in found.items() if faults is None]
+        self.board.found({unit: faults for (_, unit), faults in found.items() if faults is not None})
+        self._waiting = [*pending, *rest]
+        done = self.session.work(min(TURNS, len(pending))) if pending else 0
+        self._count(len(asked) + 2 * done + 1)
 
 
 class Allowance:

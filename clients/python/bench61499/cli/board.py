@@ -48,7 +48,7 @@ def main() -> int:
                 watch = SharedWatch(board, session, folder, options.unit, options.calls or CALLS_A_SECOND)
                 keep_connected(board, watch, lambda: open_once(options), say)
             elif folder:
-                keep(board, FolderWatch(board, session, folder))
+                keep(board, FolderWatch(board, session, folder, lambda: open_once(options), say))
     except (Misuse, WorkbenchError) as error:
         return fail("board", error)
     say(f"{board.why_ended()}; the page shows what was there before, until Ctrl-C")
