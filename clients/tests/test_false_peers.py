@@ -134,7 +134,7 @@ class ServerTest(unittest.TestCase):
             ran = run("check", "--connect", f":{port}", "--patience", 2)
             thread.join()
         self.assertEqual((ran.returncode, ran.stdout), (2, ""))
-        self.assertRegex(ran.stderr, "^check: the workbench tells of further calls without end: neither 10,000 replies nor 2 seconds suffice to catch up with it\n$")
+        self.assertRegex(ran.stderr, "^check: the workbench reports further calls without end: neither 10,000 replies nor 2 seconds suffice to catch up with it\n$")
 
     def test_who_is_refused_again_and_again_gives_up(self) -> None:
         """Two that put one folder over another each, or a server that always refuses."""

@@ -243,7 +243,7 @@ def faults_of_unit(printed: str) -> list[str]:
 def arenas_of(process: int) -> int:
     """The arenas of malloc beside the main one: each reserves 64 MiB at a multiple of that, of which it uses the first part."""
     size = 2**26
-    spans = [(int(begin, 16), int(end, 16), uses) for begin, end, uses in re.findall(r"^(\w+)-(\w+) (\S+)", Path(f"/proc/{process}/maps").read_text(), re.M)]
+    spans = [(int(begin, 16), int(end, 16), uses) for begin, end, uses in re.findall(r"^(\w+)-(\w+) (\S+)", Path(f"/proc/{process}/maps").read_text(encoding="utf-8"), re.M)]
     return sum(not used[0] % size and used[1] == rest[0] and not rest[1] % size and rest[2] == "---p" for used, rest in pairwise(spans))
 
 

@@ -97,7 +97,7 @@ class OutOfMemory(ConnectionEnded):
 
 
 def why_ended(status: int, limit: int | None) -> str:
-    """What is to be said of a workbench that was started and has ended with this status: it says nothing itself if its limit of memory is too low for that."""
+    """The message for a workbench that was started and has ended with this status: it prints none itself if its limit of memory is too low for that."""
     needs = f"; perhaps it needs more memory than its limit of {amount(limit)}: --memory-limit raises it" if limit and status else ""
     return f"the workbench ended before it answered (status {status}){needs}"
 
@@ -131,7 +131,7 @@ class BadReply(WorkbenchError):
 
 
 class TooManyParts(WorkbenchError):
-    """A network or a plan has more than `PARTS_LIMIT` parts, and was not read. The session goes on."""
+    """A network or a plan has more than `PARTS_LIMIT` parts, and was not read. The session can be used further."""
 
     def __init__(self, what: str, parts: str):
         super().__init__(f"the {what} has more than {PARTS_LIMIT:,} {parts}, which clients do not read")

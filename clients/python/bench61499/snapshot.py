@@ -16,7 +16,7 @@ from bench61499.session import BadReply, Commit, Event, Key, NoResult, Result, S
 LOOK = 5.0
 """Seconds that it waits at once for a value that is being computed."""
 ROUNDS = 10_000
-"""Replies by which it catches up with what has happened, at most: a host tells of some 200 calls by each."""
+"""Replies by which it catches up with what has happened, at most: each has up to 200 calls of a host."""
 
 
 class Snapshot:
@@ -78,7 +78,7 @@ class Snapshot:
                 break
             events += news.events
             at, news = news.at, self._session.watch(news.at)
-        raise NoResult(f"the workbench tells of further calls without end: neither {ROUNDS:,} replies nor {self._session.patience:g} seconds suffice to catch up with it")
+        raise NoResult(f"the workbench reports further calls without end: neither {ROUNDS:,} replies nor {self._session.patience:g} seconds suffice to catch up with it")
 
     def _follow(self, news: Watched) -> bool:
         """Brings the texts up to date; gives whether there were commits, each of which can have changed any value."""

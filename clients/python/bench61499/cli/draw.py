@@ -56,7 +56,7 @@ def read_options() -> argparse.Namespace:
         prog="draw",
         description="Draws the flat network of a subapplication or a system: event links red, data links blue; the blocks of a system "
         "by their resources, and links from one resource to another dashed.",
-        epilog="The status is 0 if it has drawn, 1 if the unit has no network, 2 if it could not ask or draw, or with --connect and --files the network rests on another text "
+        epilog="The status is 0 if it has drawn, 1 if the unit has no network, 2 if it could not ask or draw, the network has more than 200,000 blocks and links, or with --connect and --files the network rests on another text "
         "than that of a file.",
     )
     add_version(reader)

@@ -45,7 +45,7 @@ def read_options() -> argparse.Namespace:
         description="Prints what feeds an input, and what feeds that, or where an output leads, through all subapplications and adapters: each block with its resource, and the "
         "links, those between resources as cut, with names as they are declared. The network and the plan are those of the workbench; a block counts as fed by all its inputs. In "
         "JSON names are in capitals, as the workbench tells them.",
-        epilog="The status is 0 if it has printed the ways, even if there is nothing on them; 1 if the unit has no network or no such end; 2 if it could not ask, or with --connect "
+        epilog="The status is 0 if it has printed the ways, even if there is nothing on them; 1 if the unit has no network or no such end; 2 if it could not ask, the network has more than 200,000 blocks and links, or with --connect "
         "and --files the network rests on another text than that of a file.",
     )
     add_version(reader)
