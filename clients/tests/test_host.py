@@ -93,6 +93,14 @@ class HostTest(OneConnection):
         self.assertEqual((0, b"closed\n", b"session 1: read failed\n"), self.closed())
 
 
+class LackTest(unittest.TestCase):
+    def test_a_host_without_all_its_threads_says_so(self) -> None:
+        words = ["prlimit", f"--as={150 << 20}", workbench(), "host", "--port", "0", "--open", "--sessions", "64"]
+        ran = subprocess.run(words, stdin=subprocess.DEVNULL, capture_output=True, timeout=SECONDS, check=False)
+        self.assertEqual((1, b"bench61499: the host lacks memory or threads\n"), (ran.returncode, ran.stderr))
+        self.assertTrue(ran.stdout.startswith(b"listening on "))
+
+
 class IdleTest(OneConnection):
     more = ("--idle", "1")
 
