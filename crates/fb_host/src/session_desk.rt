@@ -110,28 +110,27 @@ impl<R: Wait + Clock> Desk for SessionDesk<'_, R> {
                 DeskError::Memory
             });
         }
-        match self.seated.perform(request) {
-            Ok(answer) => {
-                if let Some(counting) = counting {
-                    counting.end(shared, caller);
-                }
-                match self.seated.receipts.last() {
-                    Some(receipt) => {
-                        self.session_receipts = self.session_receipts.then(receipt);
-                        let number = receipt.number();
-                        note(&mut self.held, request, &answer, number);
-                        lease(rt, self.leases, caller, request, &answer, number);
-                    }
-                    None => unreachable!(),
-                }
-                end_turn(shared, turn, &answer);
-                let start = shared.last_roll();
-                self.store.add(rt, start, &mut self.seated.receipts);
-                Ok(answer)
-            }
-            Err(DeskError::HistoryFull) => Err(DeskError::Memory),
-            Err(refused) => Err(refused),
+        let answer = match self.seated.perform(request) {
+            Ok(answer) => answer,
+            Err(DeskError::HistoryFull) => return Err(DeskError::Memory),
+            Err(refused) => return Err(refused),
+        };
+        if let Some(counting) = counting {
+            counting.end(shared, caller);
         }
+        match self.seated.receipts.last() {
+            Some(receipt) => {
+                self.session_receipts = self.session_receipts.then(receipt);
+                let number = receipt.number();
+                note(&mut self.held, request, &answer, number);
+                lease(rt, self.leases, caller, request, &answer, number);
+            }
+            None => unreachable!(),
+        }
+        end_turn(shared, turn, &answer);
+        let start = shared.last_roll();
+        self.store.add(rt, start, &mut self.seated.receipts);
+        Ok(answer)
     }
 
     fn checkpoint(&mut self, limits: Limits) -> Result<u64, DeskCheckpointError>
