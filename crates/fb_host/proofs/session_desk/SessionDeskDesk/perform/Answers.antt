@@ -1,4 +1,4 @@
--- A call that the seat's desk refuses leaves the session as it was, and is behind only if the seat did not fit.
+-- A refused call changes nothing, and `Behind` is only answered if the seat did not fit.
 use Rattle.std.proofs.Common.{◌∙◌, rules, Err, ap, subst}
 use Rattle.fb_shared.specs.UnderLock.{IsBehind}
 use Rattle.fb_shared.proofs.Refusals.{behind_named}
