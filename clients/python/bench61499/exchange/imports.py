@@ -17,7 +17,7 @@ from bench61499.exchange.lowering import Lowering, made_from
 from bench61499.exchange.others import content_of, is_in, manifests, place_in
 from bench61499.exchange.report import LEFT_OUT, NOTE, Report, Run, counted
 from bench61499.exchange.to_xml import file_name
-from bench61499.exchange.widening import conversions
+from bench61499.exchange.widening import Conversions
 from bench61499.exchange.xmlfile import TOGETHER_LIMIT, Document, Element, Unreadable, find_xml, read_xml
 from bench61499.language.declarations import type_of_data
 from bench61499.language.tokens import tokens
@@ -92,9 +92,9 @@ class Project:
             made += its
         self._record_types(made, {names.spelled(it.root.get("Name")).upper() for it in documents if it.root.name == "DataType"} - {it.unit.name.upper() for it in made})
         self._record_names(made, names_without_unit([it.root for it in documents if not has_unit(it.root)]))
-        types = {it.unit.name.upper(): it.unit for it in reversed(made)}
+        conversions = Conversions({it.unit.name.upper(): it.unit for it in reversed(made)})
         for it in made:
-            for conversion in conversions(it.unit, types):
+            for conversion in conversions.of(it.unit):
                 it.report.tell(NOTE, conversion.connection.line, conversion.words)
         return lowered(made)
 

@@ -4,7 +4,7 @@ from __future__ import annotations
 from collections.abc import Iterator, Mapping
 from typing import NamedTuple
 
-from bench61499.exchange.exchanged import Connection, Network, Unit
+from bench61499.exchange.exchanged import Connection, Unit
 from bench61499.exchange.lowering import networks
 from bench61499.language.widening import is_converted
 
@@ -20,19 +20,34 @@ class Conversion(NamedTuple):
         return f"{ends}: 4diac converts this, and check reports DATA_TYPE, as the workbench compares the names of types"
 
 
-def conversions(unit: Unit, units: Mapping[str, Unit]) -> Iterator[Conversion]:
-    """The connections of a unit that are converted. `units` are all by their names in upper case."""
-    for network in networks(unit):
-        for it in network.connections["DATA_CONNECTIONS"]:
-            types = [_type(end, unit, network, units) for end in (it.source, it.destination)]
-            if all(types) and is_converted(*types):
-                yield Conversion(it, *types)
+class Conversions:
+    """What is converted in units, of which `units` are all by their names in upper case."""
+
+    def __init__(self, units: Mapping[str, Unit]):
+        self._units = units
+        self._ports: dict[str, dict[str, str]] = {}
+
+    def of(self, unit: Unit) -> Iterator[Conversion]:
+        """The connections of a unit that are converted."""
+        own = _ports(unit)
+        for network in networks(unit):
+            instances = {it.name.upper(): it.type.upper() for it in reversed(network.instances)}
+            for it in network.connections["DATA_CONNECTIONS"]:
+                types = [self._type(end, own, instances) for end in (it.source, it.destination)]
+                if all(types) and is_converted(*types):
+                    yield Conversion(it, *types)
+
+    def _type(self, end: str, own: Mapping[str, str], instances: Mapping[str, str]) -> str:
+        """The type of an end; empty if it is not known."""
+        head, point, port = end.upper().partition(".")
+        return self._ports_of(instances.get(head, "")).get(port, "") if point else own.get(head, "")
+
+    def _ports_of(self, name: str) -> Mapping[str, str]:
+        if name not in self._ports:
+            self._ports[name] = _ports(self._units[name]) if name in self._units else {}
+        return self._ports[name]
 
 
-def _type(end: str, unit: Unit, network: Network, units: Mapping[str, Unit]) -> str:
-    """The type of an end; empty if it is not known."""
-    head, point, port = end.upper().partition(".")
-    instance = next((it for it in network.instances if it.name.upper() == head), None) if point else None
-    of = units.get(instance.type.upper()) if instance else unit if not point else None
-    its = (it for section in ("VAR_INPUT", "VAR_OUTPUT") for it in (of.variables[section] if of else ()))
-    return next((it.type for it in its if it.name.upper() == (port if point else head)), "")
+def _ports(unit: Unit) -> dict[str, str]:
+    """The types of the data ports of a unit by their names in upper case. Of two with a name it is the first."""
+    return {it.name.upper(): it.type for section in ("VAR_OUTPUT", "VAR_INPUT") for it in reversed(unit.variables[section])}
