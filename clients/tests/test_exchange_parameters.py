@@ -8,6 +8,9 @@ from pathlib import Path
 from exchanging import ExchangeTest, Ran, at, exported, faults, imported, spelling, texts
 from support import run, workbench
 
+from bench61499.exchange.imports import Project
+from bench61499.exchange.lowering import made_from
+
 WRITER = """<FBType Name="Writer"><InterfaceList><EventInputs><Event Name="REQ"><With Var="DEST"/></Event></EventInputs><InputVars>
 <VarDeclaration Name="DEST" Type="STRING"/><VarDeclaration Name="LIMIT" Type="INT"/><VarDeclaration Name="LIST" Type="INT" ArraySize="2"/>
 <VarDeclaration Name="AT" Type="Point"/></InputVars><OutputVars><VarDeclaration Name="Now" Type="INT"/></OutputVars></InterfaceList><BasicFB/></FBType>"""
@@ -175,6 +178,30 @@ class ParametersTest(ExchangeTest):
         ran = self.imported(instance("P", "PumpUnit", Limit="5"))
         self.assertEqual(ran.errors, [])
         self.assertEqual(sorted(it for it in texts(self.lib) if "__" in it), ["PumpUnit__1.fb", "PumpUnit__2.fb", "PumpUnit__3.fb"])
+
+    def test_copies_that_are_too_large_together(self) -> None:
+        """The number of copies alone does not bound what small files need: here are 420 copies, with 400,000 blocks."""
+        blocks = "".join(f'<FB Name="W{it}" Type="Writer"/>' for it in range(1_000))
+        self.write("xml/PumpUnit.sub", subapplication("PumpUnit", blocks + wires(("Address", "W0.DEST"), ("Limit", "W1.LIMIT"))))
+        pumps = "".join(instance(f"P{it}", "PumpUnit", Limit=f"{it}") for it in range(20))
+        self.write("xml/Line.sub", subapplication("Line", pumps + wires(*(("Address", f"P{it}.Address") for it in range(20)))))
+        self.write("xml/Plant.sys", system("".join(instance(f"L{it}", "Line", Address=f"'{it}'") for it in range(20))))
+        errors: list[str] = []
+        project = Project([self.folder / "xml"], errors.append)
+        networks = [it.unit.network for it in project.made if made_from(it.unit) and it.unit.network]
+        self.assertEqual(errors, [])
+        self.assertIn(sum(len(it.instances) == 1_000 for it in networks), range(180, 200))
+        told = [line.partition(": ")[2] for it in project.reports for line in it.lines(True)]
+        self.assertIn("replaced: the parameters of P19 by connections from NO_SOURCE: the copies of types have more than 200,000 lines", told)
+        ends = {it.destination for each in networks for it in each.connections["DATA_CONNECTIONS"] if it.source == "NO_SOURCE"}
+        self.assertTrue({"P19.Limit", "P19.Address"} <= ends)
+
+    def test_copies_through_many_types(self) -> None:
+        for it in range(300):
+            self.write(f"xml/S{it}.sub", subapplication(f"S{it}", instance("I", f"S{it + 1}" if it < 299 else "PumpUnit") + wires(("Limit", "I.Limit"))))
+        self.write("xml/Plant.sys", system(instance("S", "S0", Limit="5")))
+        made = {it.unit.name for it in Project([self.folder / "xml"], self.fail).made}
+        self.assertTrue({"S0__1", "S299__1", "PumpUnit__1"} <= made)
 
     def test_a_copy_that_was_changed(self) -> None:
         self.imported(instance("P", "PumpUnit", Limit="5"), "P")

@@ -237,7 +237,7 @@ def _unescaped(value: str) -> str:
 
 def written(unit: Unit) -> str:
     """The text of a unit. One that is far too long for a unit is not laid out."""
-    text = "\n".join(_lines(unit)) + "\n"
+    text = "\n".join(lines_of(unit)) + "\n"
     return text if len(text) > 4 * TEXT_LIMIT else applied(text, formatted(text))
 
 
@@ -245,7 +245,8 @@ def comment(words: str) -> str:
     return f"(* {words} *)"
 
 
-def _lines(unit: Unit) -> Iterator[str]:
+def lines_of(unit: Unit) -> Iterator[str]:
+    """The text of a unit before it is laid out."""
     yield from map(comment, unit.comments)
     if unit.kind == "TYPE":
         yield f"TYPE {unit.name} : STRUCT"
