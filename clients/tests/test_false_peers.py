@@ -10,10 +10,11 @@ from collections.abc import Callable, Iterable, Iterator
 from contextlib import contextmanager, suppress
 from itertools import count, islice, repeat
 from pathlib import Path
+from tempfile import TemporaryDirectory
 from typing import Any
 from unittest.mock import patch
 
-from support import CLIENTS, GREETING, answering, forget_secret, hosting, run, workbench
+from support import CLIENTS, GREETING, answering, forget_secret, hosting, run, serving, workbench
 from tapping import false_host
 
 from bench61499 import BadReply, Change, ConnectionEnded, NoAnswer, NoResult, Put, Session, StaleBase
@@ -21,6 +22,7 @@ from bench61499.language.units import Misuse, Unit, commit_units
 from bench61499.session import REPLY_LIMIT
 from bench61499.snapshot import ROUNDS
 
+GOOD = "FUNCTION_BLOCK A END_FUNCTION_BLOCK"
 WAIT = 20
 """Seconds after which a program that has to end has not done so."""
 
@@ -106,6 +108,18 @@ class ServerTest(unittest.TestCase):
                 session.commit([Put("A", 0, "X")])
             ran = run("check", "--connect", f":{port}")
             self.assertEqual((ran.returncode, ran.stderr), (2, "check: the workbench sent a reply that makes no sense: faults of A that are not in its text\n"))
+
+    def test_a_unit_that_is_there_without_faults_is_not_checked(self) -> None:
+        with hosting("--open") as host, TemporaryDirectory() as folder, false_host(host, {b'{"faults":[]}': b'{"refused":"NoSuchKey"}'}) as port:
+            Path(folder, "a.fb").write_text(GOOD)
+            for words in ([folder, "--replace"], [folder], []):
+                ran = run("check", *words, "--connect", f":{port}")
+                self.assertEqual((ran.returncode, ran.stdout), (2, ""))
+                self.assertEqual(ran.stderr.splitlines()[-1], "check: A was changed by somebody else while it was checked; check again")
+        with serving(9) as server, TemporaryDirectory() as folder, false_host(server, {b'{"faults":[]}': b'{"refused":"NoSuchKey"}'}) as port:
+            Path(folder, "a.fb").write_text(GOOD)
+            ran = run("check", folder, "--connect", f":{port}", "--replace")
+            self.assertEqual((ran.returncode, ran.stderr), (2, "check: A was changed by somebody else while it was checked; check again\n"))
 
     def test_a_list_of_units_that_goes_round_ends(self) -> None:
         page = b'{"at":1,"units":[["A",1]]}\n'

@@ -2,7 +2,7 @@
 from __future__ import annotations
 
 import argparse
-from collections.abc import Iterator, Mapping
+from collections.abc import Container, Iterable, Iterator, Mapping
 from dataclasses import dataclass, field
 from pathlib import Path
 
@@ -161,7 +161,9 @@ def check_shared(session: Session, options: argparse.Namespace, units: list[Unit
         differences += only_there(units, there, common)
     judged = Judged.FILES if options.replace else Judged.WORKBENCH
     answers = answers_of(values, [key for key in plans if key[1] not in others]) if options.plans else None
-    return Checked(units, {key[1]: values[key] for key in faults if key[1] not in others}, answers, judged, differences, there, replaced)
+    its = {unit: values[kind, unit] for kind, unit in faults if unit not in others and (kind, unit) in values}
+    refuse_gone([unit for unit in units if unit.name not in others], its)
+    return Checked(units, its, answers, judged, differences, there, replaced)
 
 
 def put_and_check(session: Session, units: list[Unit], progress: Progress) -> Checked:
@@ -170,7 +172,15 @@ def put_and_check(session: Session, units: list[Unit], progress: Progress) -> Ch
     faults = session.find_faults(lambda results: progress.show(f"checking {len(units):,} units: {results:,} results"))
     if changed := session.changed(session.revisions):
         raise Misuse(AGAIN.format(min(changed)))
+    refuse_gone(units, faults)
     return Checked(units, faults, replaced=replaced)
+
+
+def refuse_gone(units: Iterable[Unit], faults: Container[str]) -> None:
+    """Raises `Misuse` for a unit of which the workbench knows no faults: it is not there any more."""
+    for unit in units:
+        if unit.name not in faults:
+            raise Misuse(AGAIN.format(unit.name))
 
 
 def output(found: Found, options: argparse.Namespace, replaced: int) -> Iterator[str]:
