@@ -19,7 +19,7 @@ from tapping import false_host
 
 from bench61499 import BadReply, Change, ConnectionEnded, NoAnswer, NoResult, Put, Session, StaleBase
 from bench61499.language.units import Misuse, Unit, commit_units
-from bench61499.session import REPLY_LIMIT
+from bench61499.session import REPLY_LIMIT, TEXT_LIMIT
 from bench61499.snapshot import ROUNDS
 
 GOOD = "FUNCTION_BLOCK A END_FUNCTION_BLOCK"
@@ -102,6 +102,32 @@ class ServerTest(unittest.TestCase):
         with answering(GREETING, b'{"at":2,"events":[]}\n') as port, Session.connect("127.0.0.1", port) as session:
             self.assertRaises(BadReply, session.watch, 3)
 
+    def test_texts_and_lists_that_no_workbench_has(self) -> None:
+        """What can be gone through like a list, or made a text, would pass for a unit without faults."""
+        asked: list[tuple[Callable[[Session], object], str, tuple[str, ...]]] = [
+            (lambda it: it.text("A"), '{"at":1,"base":1,"text":%s}', ("5", "null", "[]", "{}", r'"\ud800"', f'"{"x" * (TEXT_LIMIT + 1)}"', f'"{"ä" * (TEXT_LIMIT // 2 + 1)}"')),
+            (lambda it: it.peek("faults", "A"), '{"faults":%s}', ("{}", '""', "null", "[[]]", '["abc"]', '[["A",1]]')),
+            (lambda it: it.units(), '{"at":1,"units":%s}', ("{}", '""')),
+            (lambda it: it.watch(0), '{"at":1,"events":%s}', ("{}", '""', '[["commit",1,1,"A",[]]]', '[["commit",1,1,["A"],{}]]')),
+            (lambda it: it.peek("net", "A"), '{"net":%s}', ('{"blocks":{},"links":[],"borders":[]}', '{"blocks":[],"links":"","borders":[]}', '{"blocked":{"A":1}}')),
+            (lambda it: it.peek("deploy", "A"), '{"deploy":{"cuts":[],"resources":%s}}', ("{}", '[["A.B",{}]]', '[["A.B",[5]]]', r'[["A.B",["\ud800"]]]')),
+        ]
+        for ask, reply, falses in asked:
+            for false in falses:
+                with self.subTest(false=false[:40]), answering(GREETING, f"{reply % false}\n".encode()) as port, Session.connect("127.0.0.1", port) as session:
+                    self.assertRaises(BadReply, ask, session)
+
+    def test_a_unit_without_a_sensible_text_or_faults_is_not_checked(self) -> None:
+        text = f'"text":"{GOOD}"'.encode()
+        for words, false in (text, b'"text":5'), (text, rb'"text":"\ud800"'), (b'{"faults":[]}', b'{"faults":{}}'):
+            with hosting("--open") as host, TemporaryDirectory() as folder, false_host(host, {words: false}) as port, Session.connect("127.0.0.1", host) as session:
+                session.commit([Put("A", 0, GOOD)])
+                Path(folder, "a.fb").write_text(GOOD, "utf-8")
+                for path in list[str](), [folder]:
+                    ran = run("check", *path, "--connect", f":{port}")
+                    self.assertEqual((ran.returncode, ran.stdout), (2, ""))
+                    self.assertRegex(ran.stderr, r"\Acheck: the workbench sent a reply that makes no sense: .*\n\Z")
+
     def test_faults_that_are_not_in_a_text(self) -> None:
         with hosting("--open") as host, false_host(host, {b'["SYNTAX",0,1]': b'["SYNTAX",0,9]'}) as port:
             with Session.connect("127.0.0.1", host) as session:
@@ -111,13 +137,13 @@ class ServerTest(unittest.TestCase):
 
     def test_a_unit_that_is_there_without_faults_is_not_checked(self) -> None:
         with hosting("--open") as host, TemporaryDirectory() as folder, false_host(host, {b'{"faults":[]}': b'{"refused":"NoSuchKey"}'}) as port:
-            Path(folder, "a.fb").write_text(GOOD)
-            for words in ([folder, "--replace"], [folder], []):
+            Path(folder, "a.fb").write_text(GOOD, "utf-8")
+            for words in [folder, "--replace"], [folder], list[str]():
                 ran = run("check", *words, "--connect", f":{port}")
                 self.assertEqual((ran.returncode, ran.stdout), (2, ""))
                 self.assertEqual(ran.stderr.splitlines()[-1], "check: A was changed by somebody else while it was checked; check again")
         with serving(9) as server, TemporaryDirectory() as folder, false_host(server, {b'{"faults":[]}': b'{"refused":"NoSuchKey"}'}) as port:
-            Path(folder, "a.fb").write_text(GOOD)
+            Path(folder, "a.fb").write_text(GOOD, "utf-8")
             ran = run("check", folder, "--connect", f":{port}", "--replace")
             self.assertEqual((ran.returncode, ran.stderr), (2, "check: A was changed by somebody else while it was checked; check again\n"))
 

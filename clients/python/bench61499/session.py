@@ -448,11 +448,11 @@ class Watched:
 
 def _read_status(reply: dict[str, Any]) -> Status:
     its = reply["status"]
-    return Status(str(its["workbench"]), **{it: _number(its[it]) for it in ("session", "calls", "commits", "units", "keys", "pending")})
+    return Status(_words(its["workbench"]), **{it: _number(its[it]) for it in ("session", "calls", "commits", "units", "keys", "pending")})
 
 
 def _read_revisions(reply: dict[str, Any]) -> Revisions:
-    return Revisions(_number(reply["at"]), tuple(Revision(_named(unit), _number(number)) for unit, number in reply["units"]))
+    return Revisions(_number(reply["at"]), tuple(Revision(_named(unit), _number(number)) for unit, number in _list(reply["units"])))
 
 
 def _watch_reader(after: int) -> Callable[[dict[str, Any]], Watched]:
@@ -461,7 +461,7 @@ def _watch_reader(after: int) -> Callable[[dict[str, Any]], Watched]:
 
 def _read_watched(reply: dict[str, Any], after: int) -> Watched:
     missed = bool(reply.get("missed"))
-    watched = Watched(_number(reply["at"]), () if missed else tuple(map(_read_event, reply["events"])), missed)
+    watched = Watched(_number(reply["at"]), () if missed else tuple(map(_read_event, _list(reply["events"]))), missed)
     if not missed and watched.at < after:  # A watch from there would never end.
         raise ValueError(watched.at)
     return watched
@@ -470,7 +470,7 @@ def _read_watched(reply: dict[str, Any], after: int) -> Watched:
 def _read_event(event: list[Any]) -> Event:
     match event:
         case ["commit", number, caller, put, removed]:
-            return Commit(_number(number), _number(caller), tuple(map(_named, put)), tuple(map(_named, removed)))
+            return Commit(_number(number), _number(caller), _names(put), _names(removed))
         case ["value", kind, unit] if kind in _READERS:
             return Result(kind, _named(unit))
     raise ValueError(event)
@@ -483,6 +483,24 @@ def _named(words: str) -> Any:
     return words
 
 
+def _names(value: Any) -> tuple[Any, ...]:
+    return tuple(map(_named, _list(value)))
+
+
+def _list(value: Any) -> list[Any]:
+    """A list. Raises `ValueError` for what else could be gone through: an empty object would pass for no faults."""
+    if not isinstance(value, list):
+        raise ValueError(value)
+    return value
+
+
+def _words(value: Any, most: int = REPLY_LIMIT) -> str:
+    """Words of up to `most` bytes. Raises `ValueError` for another value, and for halves of characters, which are no UTF-8."""
+    if not isinstance(value, str) or len(value.encode()) > most:
+        raise ValueError(value)
+    return value
+
+
 def _number(value: Any) -> int:
     """A number of a call, a commit or a byte. Raises `ValueError` for one that no workbench reaches: files of clients have no room for it."""
     if type(value) is not int or not 0 <= value <= _HIGHEST:
@@ -491,11 +509,11 @@ def _number(value: Any) -> int:
 
 
 def _read_faults(reply: dict[str, Any]) -> tuple[Fault, ...]:
-    return tuple(Fault(_named(code), _number(start), _number(end)) for code, start, end in reply["faults"])
+    return tuple(Fault(_named(code), _number(start), _number(end)) for code, start, end in _list(reply["faults"]))
 
 
 def _read_links(links: list[Any]) -> tuple[Link, ...]:
-    return tuple(Link(*map(_named, it)) for it in links)
+    return tuple(Link(*_names(it)) for it in _list(links))
 
 
 def _read_net(reply: dict[str, Any]) -> Net:
@@ -503,11 +521,11 @@ def _read_net(reply: dict[str, Any]) -> Net:
         case "too_large":
             return TooLarge()
         case {"blocked": units}:
-            return Blocked(tuple(map(_named, units)))
+            return Blocked(_names(units))
         case {"recursive": units}:
-            return Recursive(tuple(map(_named, units)))
+            return Recursive(_names(units))
         case {"blocks": blocks, "links": links, "borders": borders}:
-            return Flat(tuple(Block(*map(_named, it)) for it in blocks), _read_links(links), tuple(Border(*map(_named, it)) for it in borders))
+            return Flat(tuple(Block(*_names(it)) for it in _list(blocks)), _read_links(links), tuple(Border(*_names(it)) for it in _list(borders)))
     raise ValueError(reply)
 
 
@@ -516,9 +534,9 @@ def _read_deploy(reply: dict[str, Any]) -> Deploy:
         case {"stopped": stopped} if not isinstance(net := _read_net({"net": stopped}), Flat):
             return Stopped(net)
         case {"faulty": misplaced}:
-            return Faulty(tuple(Misplaced(*map(_named, it)) for it in misplaced))
+            return Faulty(tuple(Misplaced(*_names(it)) for it in _list(misplaced)))
         case {"cuts": cuts, "resources": resources}:
-            return Plan(_read_links(cuts), tuple(Resource(_named(name), tuple(map(str, commands))) for name, commands in resources))
+            return Plan(_read_links(cuts), tuple(Resource(_named(name), tuple(map(_words, _list(commands)))) for name, commands in _list(resources)))
     raise ValueError(reply)
 
 
@@ -560,7 +578,7 @@ def _present(read: Callable[[dict[str, Any]], Value]) -> Callable[[dict[str, Any
 
 
 def _text_reader(unit: str) -> Callable[[dict[str, Any]], Text]:
-    return lambda reply: Text(unit.upper(), _number(reply["base"]), str(reply["text"]), _number(reply["at"]))
+    return lambda reply: Text(unit.upper(), _number(reply["base"]), _words(reply["text"], TEXT_LIMIT), _number(reply["at"]))
 
 
 @dataclass(frozen=True)

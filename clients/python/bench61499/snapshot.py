@@ -56,7 +56,7 @@ class Snapshot:
     def _check(self, values: dict[Key, Any]) -> None:
         """Raises `BadReply` if a fault is not in the text of its unit: what answers is no workbench."""
         for (kind, unit), faults in values.items():
-            if kind == "faults" and faults and (unit not in self.texts or max(it.end for it in faults) > len(self.texts[unit].text.encode(errors="replace"))):
+            if kind == "faults" and faults and (unit not in self.texts or max(it.end for it in faults) > len(self.texts[unit].text.encode())):
                 raise BadReply(f"faults of {unit} that are not in its text".encode())
 
     def _list(self) -> None:
