@@ -27,6 +27,7 @@ from bench61499.sync.store import NAME, STATE
 
 ASKED = f"{ONLY_ASKED}\n"
 SAME = "The workbench has the same texts.\n"
+LENT = "units rest on others that only the workbench has: B"
 OTHERS = "The faults are those of the workbench's texts.\n"
 CONFLICT = "<<<<<<< mine\n// 1\n=======\n// 2\n>>>>>>> theirs\n"
 GOOD, BAD = "FUNCTION_BLOCK A END_FUNCTION_BLOCK", "FUNCTION_BLOCK A EVENT_INPUT E WITH X; END_EVENT END_FUNCTION_BLOCK"
@@ -190,7 +191,7 @@ class HostTest(Shared):
         self.assertEqual(self.check(self.port, "--replace").returncode, 0)
         (self.folder / "b.fb").unlink()
         ran = self.check(self.port, "--replace")
-        self.assertEqual((ran.returncode, ran.stderr), (0, "check: the workbench has also units that no file has: B\n"))
+        self.assertEqual((ran.returncode, ran.stderr), (0, f"check: the workbench has also units that no file has: B\ncheck: {LENT}\n"))
         self.assertEqual([it["difference"] for it in json.loads(self.check(self.port, "--replace", "--json").stdout)["differences"]], ["only there"])
         ran = self.check(self.port, "--replace", "--mirror", "--quiet")
         self.assertEqual((ran.returncode, ran.stdout.split(": ")[1]), (1, "UNKNOWN_TYPE"))
@@ -199,6 +200,25 @@ class HostTest(Shared):
         for words in (["a.fb", "--replace", "--mirror"], [".", "--mirror"]):
             ran = run("check", *words, "--connect", f":{self.port}", folder=self.folder)
             self.assertEqual((ran.returncode, ran.stderr.splitlines()[-1]), (2, "check: error: --mirror goes with --replace and folders"))
+
+    def test_units_that_only_the_workbench_has(self):
+        """Without them the files would have a fault, and each form says so."""
+        self.write("c.fb", "FUNCTION_BLOCK C VAR_INPUT V : S; W : GONE; END_VAR FBS X : B; END_FBS END_FUNCTION_BLOCK")
+        with serving(9) as server, Session.connect("127.0.0.1", server) as second:
+            for port, other, words in (self.port, self.other, ["."]), (self.port, self.other, ["c.fb"]), (server, second, ["c.fb"]):
+                if not other.revision("B"):
+                    other.commit([Put("B", 0, GOOD.replace(" A ", " B ")), Put("S", 0, "TYPE S : STRUCT A : INT; END_STRUCT END_TYPE"), Put("Z", 0, "")])
+                printed = {it: run("check", *words, "--connect", f":{port}", "--replace", "--format", it, folder=self.folder) for it in ("human", "json", "github", "sarif", "junit")}
+                for it in printed.values():
+                    self.assertEqual((it.returncode, it.stderr.splitlines()[-1]), (0, f"check: {LENT}, S"))
+                self.assertEqual(json.loads(printed["json"].stdout)["judged"], "files and workbench")
+                self.assertEqual(printed["github"].stdout.splitlines()[-1], f"::warning title=JUDGED::{LENT}, S")
+                (log,) = json.loads(printed["sarif"].stdout)["runs"]
+                told = [{"level": "warning", "message": {"text": f"{LENT}, S"}}]
+                self.assertEqual((log["properties"]["judged"], log["invocations"]), ("files and workbench", [{"executionSuccessful": True, "toolExecutionNotifications": told}]))
+                properties = ElementTree.fromstring(printed["junit"].stdout).findall("testsuite/properties/property")
+                self.assertEqual([(it.get("name"), it.get("value")) for it in properties], [("judged", "files and workbench"), ("rests on", "B"), ("rests on", "S")])
+        self.assertEqual(self.check(self.port, "--replace", "--mirror", "--json").returncode, 1)
 
     def test_two_that_replace_at_once(self):
         """The one that comes later stops at the first unit of the other, and leaves all others of them."""

@@ -147,7 +147,7 @@ class ManyTest(unittest.TestCase):
         """The reasons of all of 600 units, and how many times texts were searched for what they mention."""
         texts = {f"S{number}": f"SUBAPPLICATION S{number} SUBAPPS A : S{leads_to(number)}; END_SUBAPPS END_SUBAPPLICATION" for number in range(1, 601)}
         reasons = Reasons(Texts.of(texts))
-        with patch("bench61499.language.plans._types", wraps=plans._types) as searched:
+        with patch("bench61499.language.plans.mentioned_units", wraps=plans.mentioned_units) as searched:
             return [it for unit in sorted(texts) for it in reasons.of(unit, texts[unit], net)], searched.call_count
 
     def test_each_text_is_searched_once(self) -> None:

@@ -8,7 +8,7 @@ from pathlib import Path
 
 from bench61499 import Fault, Key, Session, WorkbenchError
 from bench61499.cli.command import Progress, add_patience, add_workbench, fail, open_session, persistently, program, read_path, tell
-from bench61499.cli.comparing import AGAIN, Difference, Judged, compare, not_compared, only_there, remarks, replace
+from bench61499.cli.comparing import AGAIN, Difference, Judged, compare, lent, mentioned, not_compared, only_there, remarks, replace
 from bench61499.cli.findings import Answers, Found, answers_of, find, keys_of, try_plans
 from bench61499.cli.formats import MACHINE_FORMATS, lines, summary
 from bench61499.cli.looking import ONLY_ASKED, look
@@ -30,7 +30,7 @@ STRICT = """warnings of this client give status 1 too: types of values that are 
 class Checked:
     """The faults of units by their names, networks and plans if they are asked for, and whose texts were judged: `around` has all of a workbench.
 
-    `replaced` counts the units that a workbench had before; `failed` tells why there are no networks and plans although they were asked for.
+    `lent` are the units on which replaced ones rest and that no file has. `replaced` counts the units that a workbench had before; `failed` tells why there are no networks and plans although they were asked for.
     """
 
     units: list[Unit]
@@ -39,12 +39,14 @@ class Checked:
     judged: Judged = Judged.FILES
     differences: list[Difference] = field(default_factory=list)
     around: dict[str, str] | None = None
+    lent: list[str] = field(default_factory=list)
     replaced: int = 0
     failed: str = ""
 
     def found(self) -> Found:
         found = find(self.units, self.faults, self.answers, self.around)
-        found.judged, found.differences, found.failed = self.judged, self.differences, self.failed
+        found.judged = Judged.FILES_AND_WORKBENCH if self.judged == Judged.FILES and self.lent else self.judged
+        found.differences, found.lent, found.failed = self.differences, self.lent, self.failed
         return found
 
 
@@ -71,7 +73,7 @@ def main() -> int:
         print(line)
     is_told = options.format == "human" and not options.quiet
     asked = [ONLY_ASKED] if found.judged == Judged.NOT_COMPARED and not is_told else []
-    for remark in [*remarks(found.differences), *asked, *filter(None, [found.failed])]:
+    for remark in [*remarks(found.differences), *asked, *filter(None, [found.lending, found.failed])]:
         tell(f"check: {remark}")
     return 2 if found.unchecked or found.failed else int(found.is_faulty)
 
@@ -137,7 +139,7 @@ def check(options: argparse.Namespace, units: list[Unit]) -> Checked:
             unsure = [] if options.trust_server else not_compared(units, looked.differences)
             checked = Checked(units, looked.faults, judged=Judged.NOT_COMPARED, differences=[*looked.differences, *unsure])
         else:
-            checked = put_and_check(session, units, progress)
+            checked = put_and_check(session, units, bool(options.connect), progress)
         if options.plans:
             checked.answers, checked.failed = try_plans(session, units, progress)
     return checked
@@ -163,17 +165,18 @@ def check_shared(session: Session, options: argparse.Namespace, units: list[Unit
     answers = answers_of(values, [key for key in plans if key[1] not in others]) if options.plans else None
     its = {unit: values[kind, unit] for kind, unit in faults if unit not in others and (kind, unit) in values}
     refuse_gone([unit for unit in units if unit.name not in others], its)
-    return Checked(units, its, answers, judged, differences, there, replaced)
+    return Checked(units, its, answers, judged, differences, there, lent(units, there) if options.replace else [], replaced)
 
 
-def put_and_check(session: Session, units: list[Unit], progress: Progress) -> Checked:
+def put_and_check(session: Session, units: list[Unit], is_shared: bool, progress: Progress) -> Checked:
     """Puts the units into a workbench that answers no reads, or an own one, and has it check them."""
     replaced = commit_units(session, units, lambda put: progress.show(f"putting units: {put:,} of {len(units):,}"))
     faults = session.find_faults(lambda results: progress.show(f"checking {len(units):,} units: {results:,} results"))
     if changed := session.changed(session.revisions):
         raise Misuse(AGAIN.format(min(changed)))
     refuse_gone(units, faults)
-    return Checked(units, faults, replaced=replaced)
+    there = session.present(sorted(mentioned(units).difference(it.name for it in units))) if is_shared else {}
+    return Checked(units, faults, lent=[it for it, revision in there.items() if revision], replaced=replaced)
 
 
 def refuse_gone(units: Iterable[Unit], faults: Container[str]) -> None:

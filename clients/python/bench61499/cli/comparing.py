@@ -10,6 +10,9 @@ from pathlib import Path
 
 from bench61499 import Change, NoSuchUnit, Put, Remove, Session, StaleBase, batches
 from bench61499.cli.command import Progress
+from bench61499.language.mentions import words_of
+from bench61499.language.plans import mentioned_units
+from bench61499.language.reader import read
 from bench61499.language.units import Misuse, Unit
 from bench61499.snapshot import Snapshot
 
@@ -33,9 +36,10 @@ class How(StrEnum):
 
 
 class Judged(StrEnum):
-    """Whose texts the faults are of: those of the files, or those of a workbench, which were compared with the files if it gives texts back."""
+    """Whose texts the faults are of: those of the files, perhaps with units that only a workbench has, or those of a workbench, which were compared with the files if it gives texts back."""
 
     FILES = "files"
+    FILES_AND_WORKBENCH = "files and workbench"
     WORKBENCH = "workbench"
     NOT_COMPARED = "workbench, not compared"
 
@@ -77,6 +81,18 @@ def only_there(units: Iterable[Unit], there: Iterable[str], common: Mapping[str,
     """The units of a workbench that no file has."""
     here = {it.name for it in units}
     return [Difference(it, None, How.REMOVED_HERE if it in common else How.ONLY_THERE) for it in there if it not in here]
+
+
+def lent(units: list[Unit], there: Iterable[str]) -> list[str]:
+    """The units of a workbench on which these rest and that are none of them. Only texts with the name of one are read, which takes longer than to look for words."""
+    others = set(there) - {it.name for it in units}
+    resting = [it for it in units if not others.isdisjoint(words_of(it.text))] if others else []
+    return sorted(others & mentioned(resting))
+
+
+def mentioned(units: Iterable[Unit]) -> set[str]:
+    """The names of units that these mention."""
+    return {name for it in units for name in mentioned_units(read(it.text))}
 
 
 def _how(here: str, there: str | None, common: str | None) -> How:

@@ -8,7 +8,7 @@ from typing import Any, Literal
 
 from bench61499 import Deploy, Fault, Key, Net, NoSuchKey, OutOfMemory, Places, Session, There
 from bench61499.cli.command import Progress
-from bench61499.cli.comparing import Difference, Judged
+from bench61499.cli.comparing import Difference, Judged, named
 from bench61499.language.copies import Originals
 from bench61499.language.explain import Explainer, Names
 from bench61499.language.plans import Reason, Reasons
@@ -82,10 +82,17 @@ class Found:
     answers: Answers | None = None
     judged: Judged = Judged.FILES
     differences: Sequence[Difference] = ()
+    lent: Sequence[str] = ()
+    """The units that only the workbench has, and on which those of the files rest."""
     is_strict: bool = False
     """Whether warnings count."""
     failed: str = ""
     """Why networks and plans are not known although they were asked for."""
+
+    @property
+    def lending(self) -> str:
+        """That units rest on others that no file has; empty if none does."""
+        return f"units rest on others that only the workbench has: {named([*self.lent])}" if self.lent else ""
 
     @property
     def unchecked(self) -> list[str]:

@@ -141,7 +141,9 @@ def _entry(it: Finding) -> Json:
 def as_github(found: Found) -> str:
     """One command a line, which GitHub shows beside the line of the file."""
     remarks = [f"::warning file={_escaped(str(it.file), ':,')},title=NOT_CHECKED::{_not_checked(it)}" for it in found.differences if it.file]
-    if found.judged != Judged.FILES:
+    if found.lending:
+        remarks.append(f"::warning title=JUDGED::{_escaped(found.lending)}")
+    elif found.judged != Judged.FILES:
         remarks.append(f"::notice title=JUDGED::the texts of the {found.judged}")
     if found.failed:
         remarks.append(f"::error title=FAILED::{_escaped(found.failed)}")
@@ -204,7 +206,8 @@ def _invocation(found: Found) -> Json:
         if it.file
     ]
     notifications += [{"level": "error", "message": {"text": found.failed}}] if found.failed else []
-    return {"executionSuccessful": not notifications, "toolExecutionNotifications": notifications}
+    warned_of: list[Json] = [{"level": "warning", "message": {"text": found.lending}}] if found.lending else []
+    return {"executionSuccessful": not notifications, "toolExecutionNotifications": [*notifications, *warned_of]}
 
 
 def _uri(file: Path) -> str:
@@ -226,7 +229,10 @@ def as_junit(found: Found) -> str:
     top = ElementTree.Element("testsuites", {"name": "bench61499", **attributes})
     suite = ElementTree.SubElement(top, "testsuite", {"name": "units", **attributes})
     if found.judged != Judged.FILES:
-        ElementTree.SubElement(ElementTree.SubElement(suite, "properties"), "property", name="judged", value=found.judged)
+        properties = ElementTree.SubElement(suite, "properties")
+        ElementTree.SubElement(properties, "property", name="judged", value=found.judged)
+        for other in found.lent:
+            ElementTree.SubElement(properties, "property", name="rests on", value=other)
     for unit in found.units:
         case = _test_case(suite, unit, findings[unit.name])
         if unit.name in skipped:

@@ -46,7 +46,7 @@ class Reasons:
 
     def __init__(self, texts: Texts):
         self._texts = texts
-        self._mentioned = cache(lambda unit: _types(texts.unit(unit)))
+        self._mentioned = cache(lambda unit: mentioned_units(texts.unit(unit)))
         self._goals: tuple[str, ...] = ()
         self._before: set[str] = set()  # The goals, and units that are known to lead to one.
         self._apart: set[str] = set()
@@ -174,7 +174,7 @@ def why_misplaced(it: Misplaced, names: AsDeclared) -> str:
     return f"no mapping gives {names.path(it.path)} a resource" if it.reason == "UNMAPPED" else f"a mapping is of {names.path(it.path)}, which is not there"
 
 
-def _types(unit: Unit | None) -> set[str]:
+def mentioned_units(unit: Unit | None) -> set[str]:
     """The units that a unit mentions."""
     return {use.key.name for use in unit.uses if use.key.space == TYPE and not unit.is_skipped(use.start)} if unit else set()
 
