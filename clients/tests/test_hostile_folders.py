@@ -7,7 +7,7 @@ import sqlite3
 import struct
 import subprocess
 import unittest
-from collections.abc import Iterator
+from collections.abc import Callable, Iterator
 from contextlib import closing, contextmanager
 from pathlib import Path
 from unittest.mock import patch
@@ -64,6 +64,25 @@ class FilesTest(HostileTest):
         self.assertEqual((ran.returncode, ran.stdout, ran.stderr), (2, "", told))
         ran = self.limited(CLIENTS / "check", "plant", "--program", "/bin/false")
         self.assertEqual((ran.returncode, ran.stdout, ran.stderr), (2, "", f"check: {told}"))
+
+    def test_what_is_no_file_is_named(self) -> None:
+        """A unit that is not read never looks like a checked one."""
+        link, pipe = "is a link that leads to no *.fb file of the folders that are named, so it is not read", "can't be read: it is no file, but a pipe or a device"
+        file, inner = self.plant / "Q.fb", self.plant / "inner"
+        inner.mkdir()
+        made: list[tuple[Callable[[], object], str]] = [
+            (lambda: file.symlink_to("nowhere.fb"), link), (lambda: file.symlink_to("Q.fb"), link), (lambda: file.symlink_to(inner), link), (lambda: os.mkfifo(file), pipe),
+        ]
+        for make, why in made:
+            make()
+            ran = self.check("plant")
+            self.assertEqual((ran.returncode, ran.stdout, ran.stderr), (2, "", f"check: plant/Q.fb: {why}\n"))
+            folder = Folder([self.plant])
+            folder.look()
+            self.assertEqual((len(folder.units), folder.problems), (7, (f"{file}: {why}",)))
+            file.unlink()
+        (self.plant / "Q.fb").mkdir()
+        self.assertEqual(self.check("plant").returncode, 0)
 
     def test_a_text_of_brackets_is_read_soon(self) -> None:
         body = f"FUNCTION_BLOCK Q\nALGORITHM A IN ST: X := {'(' * 65_000}; END_ALGORITHM\nEND_FUNCTION_BLOCK\n"

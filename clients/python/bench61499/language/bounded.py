@@ -9,6 +9,9 @@ from pathlib import Path
 from typing import NamedTuple
 
 
+NO_FILE = "it is no file, but a pipe or a device"
+
+
 class Read(NamedTuple):
     """What was read of a file, and how many bytes it has: more than were read if it is too large."""
 
@@ -23,7 +26,7 @@ def read_at_most(file: Path, most: int) -> Read:
         if stat.S_ISDIR(state.st_mode):
             raise IsADirectoryError(errno.EISDIR, os.strerror(errno.EISDIR), str(file))
         if not stat.S_ISREG(state.st_mode):
-            raise OSError(errno.EINVAL, "it is no file, but a pipe or a device", str(file))
+            raise OSError(errno.EINVAL, NO_FILE, str(file))
         content = stream.read(most + 1)
     return Read(content, max(len(content), state.st_size))
 

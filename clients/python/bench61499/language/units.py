@@ -1,6 +1,7 @@
 """Files as units: which unit a file is, and how a whole folder is put into a workbench."""
 from __future__ import annotations
 
+import errno
 import os
 import stat
 from collections.abc import Callable, Container, Iterable, Iterator
@@ -9,7 +10,7 @@ from pathlib import Path
 from typing import NoReturn
 
 from bench61499 import NAME_LIMIT, TEXT_LIMIT, UNITS_LIMIT, Put, Session, StaleBase, batches
-from bench61499.language.bounded import read_at_most, walk
+from bench61499.language.bounded import NO_FILE, read_at_most, walk
 from bench61499.language.merging import MARKED, conflict_lines
 from bench61499.language.names import shown
 from bench61499.language.tokens import RESERVED, declared_name
@@ -35,7 +36,7 @@ class Unit:
 def find_files(paths: Iterable[Path], failed: Callable[[Misuse], object] | None = None) -> list[Path]:
     """The files themselves and the `*.fb` files of the folders, inner folders included, each once and sorted.
 
-    Raises `Misuse`; where `failed` is given it is told of the inner folders that can't be read, and of links that lead elsewhere, and the others are looked at.
+    Raises `Misuse`; where `failed` is given it is told of the inner folders that can't be read, of links that lead elsewhere or nowhere, and of pipes, and the others are looked at.
     """
     named = [(path, _is_folder(path)) for path in paths]
     folders = [path.resolve() for path, is_folder in named if is_folder]
@@ -82,8 +83,12 @@ def _files_in(folder: Path, failed: Callable[[Misuse], object]) -> Iterator[tupl
             failed(_unreadable(path, error))
 
     for entry in walk(folder, tell, is_hidden):
-        if can_be_unit(entry.name) and _is_file(entry):
+        if not can_be_unit(entry.name):
+            continue
+        if _is_file(entry):
             yield os.path.realpath(entry.path) if entry.is_symlink() else real + entry.path[len(root):], Path(entry.path)
+        elif os.path.lexists(entry.path):
+            failed(leads_out(entry.path) if entry.is_symlink() else _unreadable(entry.path, OSError(errno.EINVAL, NO_FILE)))
 
 
 def is_hidden(name: str) -> bool:
@@ -103,7 +108,7 @@ def _is_file(entry: os.DirEntry[str]) -> bool:
     except PermissionError:
         return True
     except OSError:
-        return False  # A link to nothing or to itself, or a file that has gone.
+        return False  # A link to itself.
 
 
 def _refuse(error: Misuse) -> NoReturn:
