@@ -17,8 +17,10 @@ from xml.etree import ElementTree
 from support import CLIENTS, HISTORY, InFolder, hosting, run, serving, until, used
 
 from bench61499 import Change, Commit, ConnectionEnded, Fault, NoResult, NotLetIn, Put, Remove, Session, batches
+from bench61499.cli.check import Checked
+from bench61499.cli.check import main as check_main
 from bench61499.cli.command import AGAIN, Progress, persistently
-from bench61499.cli.comparing import replace
+from bench61499.cli.comparing import Difference, How, Judged, replace
 from bench61499.cli.looking import ONLY_ASKED
 from bench61499.language.units import Misuse, Unit
 from bench61499.secret import secret_file
@@ -163,6 +165,15 @@ class HostTest(Shared):
         self.assertEqual([it.split(":")[0] for it in ran.stdout.splitlines()], ["A.fb", "B.fb"])
         self.assertIn("did you mean LIFTER?", ran.stdout)
         self.assertIn("name files or folders", run("check", folder=self.folder).stderr)
+
+    def test_a_unit_that_goes_while_all_are_checked(self):
+        """No advice names an option that needs a path."""
+        checked = Checked([Unit("A", Path("A.fb"), GOOD)], {}, judged=Judged.WORKBENCH, differences=[Difference("A", Path("A.fb"), How.ONLY_HERE)])
+        for path, told in ((), ""), (("A.fb",), "; --replace puts them"):
+            with patch("sys.argv", ["check", *path, "--connect", ":1"]), patch("bench61499.cli.check.read_units", lambda _: checked.units), \
+                    patch("bench61499.cli.check.check", lambda *_: checked), contextlib.redirect_stdout(io.StringIO()), contextlib.redirect_stderr(io.StringIO()) as said:
+                self.assertEqual(check_main(), 2)
+            self.assertEqual(said.getvalue(), f"check: not checked, as the workbench has no such unit: A{told}\n")
 
     def test_one_file_of_many(self):
         """The words are those for all units of the workbench."""

@@ -73,7 +73,7 @@ def main() -> int:
         print(line)
     is_told = options.format == "human" and not options.quiet
     asked = [ONLY_ASKED] if found.judged == Judged.NOT_COMPARED and not is_told else []
-    for remark in [*remarks(found.differences), *asked, *filter(None, [found.lending, found.failed])]:
+    for remark in [*remarks(found.differences, bool(options.path)), *asked, *filter(None, [found.lending, found.failed])]:
         tell(f"check: {remark}")
     return 2 if found.unchecked or found.failed else int(found.is_faulty)
 

@@ -45,16 +45,26 @@ class Judged(StrEnum):
 
 
 _REMARKS = {
-    How.ONLY_HERE: "not checked, as the workbench has no such unit: {}; --replace puts them",
-    How.REMOVED_THERE: "not checked, as somebody has removed them from the workbench: {}; --replace puts them",
-    How.CHANGED_HERE: "not checked, changed here: {}; --replace puts them",
-    How.CHANGED_THERE: "not checked, changed in the workbench: {}; --replace puts the texts of the files over it",
-    How.CHANGED_ON_BOTH_SIDES: "not checked, changed here and in the workbench: {}; --replace puts the texts of the files over it",
-    How.DIFFERS: "not checked, as the workbench has another text: {}; --replace puts those of the files over it",
-    How.NOT_COMPARED: "not compared, as the workbench gives no texts back: {}; --trust-server takes its texts for those of the files",
+    How.ONLY_HERE: "not checked, as the workbench has no such unit: {}",
+    How.REMOVED_THERE: "not checked, as somebody has removed them from the workbench: {}",
+    How.CHANGED_HERE: "not checked, changed here: {}",
+    How.CHANGED_THERE: "not checked, changed in the workbench: {}",
+    How.CHANGED_ON_BOTH_SIDES: "not checked, changed here and in the workbench: {}",
+    How.DIFFERS: "not checked, as the workbench has another text: {}",
+    How.NOT_COMPARED: "not compared, as the workbench gives no texts back: {}",
     How.ONLY_THERE: "the workbench has also units that no file has: {}",
     How.REMOVED_HERE: "the workbench still has units that were removed here: {}",
 }
+_ADVICE = {
+    How.ONLY_HERE: "; --replace puts them",
+    How.REMOVED_THERE: "; --replace puts them",
+    How.CHANGED_HERE: "; --replace puts them",
+    How.CHANGED_THERE: "; --replace puts the texts of the files over it",
+    How.CHANGED_ON_BOTH_SIDES: "; --replace puts the texts of the files over it",
+    How.DIFFERS: "; --replace puts those of the files over it",
+    How.NOT_COMPARED: "; --trust-server takes its texts for those of the files",
+}
+"""What who has named files can do."""
 
 
 @dataclass(frozen=True)
@@ -105,10 +115,10 @@ def _how(here: str, there: str | None, common: str | None) -> How:
     return How.CHANGED_HERE if there == common else How.CHANGED_ON_BOTH_SIDES
 
 
-def remarks(differences: Iterable[Difference]) -> Iterator[str]:
-    """A sentence for each way to differ."""
+def remarks(differences: Iterable[Difference], are_of_files: bool = True) -> Iterator[str]:
+    """A sentence for each way to differ, with advice if the units are of files that the user has named."""
     for how, units in _by_how(differences):
-        yield _REMARKS[how].format(named(units))
+        yield _REMARKS[how].format(named(units)) + (_ADVICE.get(how, "") if are_of_files else "")
 
 
 def in_words(differences: Iterable[Difference]) -> str:
