@@ -24,6 +24,7 @@ from bench61499.cli.comparing import Difference, How, Judged, replace
 from bench61499.cli.looking import ONLY_ASKED
 from bench61499.language.units import Misuse, Unit
 from bench61499.secret import secret_file
+from bench61499.session import PATIENCE
 from bench61499.snapshot import Snapshot
 from bench61499.sync.store import NAME, STATE
 
@@ -347,6 +348,12 @@ class PatienceTest(Shared):
                 session.settle()
             with self.assertRaisesRegex(NoResult, f"faults of {job};"):
                 session.wait("faults", job)
+
+    def test_patience_outlasts_what_a_session_can_keep_of_a_host(self) -> None:
+        """A host gives a key back after a minute, and its worker then needs some time."""
+        self.assertGreaterEqual(PATIENCE, 90)
+        for words in ["check", "--help"], ["plan", "--help"]:
+            self.assertIn(f"(default {PATIENCE:g})", " ".join(run(*words).stdout.split()))
 
     def test_patience_is_a_number_of_seconds(self) -> None:
         for words in "0", "-1", "x", "nan", "1e9":

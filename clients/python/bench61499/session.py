@@ -37,8 +37,8 @@ REPLY_LIMIT = 268_435_456
 PARTS_LIMIT = 200_000
 """Blocks and links of a network, or commands of a plan, that a client reads: a million would take 1 GB."""
 
-PATIENCE = 60.0
-"""Seconds that whoever waits for values waits without a further one, by default."""
+PATIENCE = 90.0
+"""Seconds that whoever waits for values waits without a further one, by default: longer than a session can keep a key of a host, which gives it back after 60."""
 LONGEST_WATCH = 30.0
 """Seconds that a watch waits, at most."""
 
